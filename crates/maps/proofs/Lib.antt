@@ -1,0 +1,10 @@
+pub mod Blocks
+pub mod Cells
+pub mod Chaining
+pub mod Floats
+pub mod Good
+pub mod Hexed
+pub mod Listed
+pub mod Pairing
+pub mod Repeating
+pub mod Walks

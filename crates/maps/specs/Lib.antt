@@ -1,0 +1,15 @@
+pub mod Centres
+pub mod Chains
+pub mod Checks
+pub mod Density
+pub mod DrawnLinks
+pub mod HexLinks
+pub mod LinkChecks
+pub mod Links
+pub mod Listing
+pub mod Marks
+pub mod Ranges
+pub mod Reading
+pub mod Refusals
+pub mod Repeats
+pub mod Sets

@@ -1,0 +1,96 @@
+ghost use Prim.Native.Nat.{_*_, _<_, _≤_};
+ghost use Rattle.maps.specs.Centres.{Centred, column-of, row-of};
+ghost use Rattle.maps.specs.HexLinks.{Size, hex-meaning, space-at};
+ghost use Rattle.maps.specs.Ranges.{hex-in-range};
+ghost use Rattle.maps.specs.Refusals.{size-number, space-number};
+ghost use Rattle.std.specs.Results.{Cases};
+ghost use mathlib.Core.Path.{_≡_};
+use crate::centre::Centre;
+use crate::centre::centre_at;
+use crate::refusals::SizeRefusal;
+use crate::refusals::SpaceRefusal;
+use crate::source::Map;
+
+// A sheet of hexes in rows. It stores its size alone and computes its links.
+#[derive(Clone, Copy)]
+pub struct HexSheet {
+    width: u8,
+    height: u8,
+    ghost ok: { Size width × Size height },
+}
+
+impl HexSheet {
+    // A sheet of that size; width and height are 1 to 64.
+    pub fn new(width: u16, height: u16) -> Result<HexSheet, SizeRefusal>
+        ensures { λ r. ⌜ Cases r (λ s. Size width × Size height × (s .width ≡ width) × (s .height ≡ height)) (λ e. (size-number e ≡ 10) × (Size width × Size height → ⊥)) ⌝ }
+    {
+        if width < 1 || width > 64 || height < 1 || height > 64 {
+            return Err(SizeRefusal::SizeOutOfRange);
+        }
+        Ok(HexSheet {
+            width: width as u8,
+            height: height as u8,
+        })
+    }
+
+    // The space in a row and a column.
+    fn space(&self, row: u32, column: u32) -> u16
+        requires row { ⌜ row < now self .height ⌝ }
+        requires column { ⌜ column < now self .width ⌝ }
+        ensures { λ r. ⌜ r ≡ space-at (now (self .entry) .width) row column ⌝ }
+    {
+        (row * self.width as u32 + column) as u16
+    }
+
+    // The centre of a space.
+    pub fn centre(&self, space: u16) -> Result<Centre, SpaceRefusal>
+        ensures { λ r. ⌜ Cases r (λ c. (space < now (self .entry) .width * now (self .entry) .height) × Centred (row-of (now (self .entry) .width) space) (column-of (now (self .entry) .width) space) (c .x) (c .y)) (λ e. (space-number e ≡ 11) × (now (self .entry) .width * now (self .entry) .height ≤ space)) ⌝ }
+    {
+        let width = self.width as u16;
+        if space >= width * self.height as u16 {
+            return Err(SpaceRefusal::NoSuchSpace);
+        }
+        Ok(centre_at((space / width) as u8, (space % width) as u8))
+    }
+}
+
+pub impl Map for HexSheet as HexSource {
+    ghost meaning = { λ s. hex-meaning (s .width) (s .height) };
+
+    ghost fits = { λ s. hex-in-range (s .width) (s .height) (s .ok .0) (s .ok .1) };
+
+    fn spaces(&self) -> u32 {
+        self.width as u32 * self.height as u32
+    }
+
+    fn links(&self) -> u32 {
+        let w = self.width as u32;
+        let h = self.height as u32;
+        h * (w - 1) + (h - 1) * (2 * w - 1)
+    }
+
+    fn pair(&self, place: u32) -> Option<(u16, u16)> {
+        let w = self.width as u32;
+        let h = self.height as u32;
+        let beside = h * (w - 1);
+        if place < beside {
+            let row = place / (w - 1);
+            let column = place % (w - 1);
+            return Some((self.space(row, column), self.space(row, column + 1)));
+        }
+        let below = place - beside;
+        let steps = 2 * w - 1;
+        let row = below / steps;
+        let step = below % steps;
+        if row >= h - 1 {
+            return None;
+        }
+        let ahead = (step + 1) / 2;
+        let behind = step / 2;
+        if row % 2 == 0 {
+            Some((self.space(row, ahead), self.space(row + 1, behind)))
+        } else {
+            Some((self.space(row, behind), self.space(row + 1, ahead)))
+        }
+    }
+}
