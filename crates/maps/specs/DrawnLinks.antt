@@ -11,7 +11,7 @@ pairs (a ∷ []) = []
 pairs (a ∷ (b ∷ rest)) = (a, b) ∷ pairs rest
 
 -- no map has more than 4,294,967,295 links: what comes after them belongs to none
-abbrev pub drawn-links : List ℕ → List Link
+unfoldable pub drawn-links : List ℕ → List Link
 drawn-links ends = take 4294967295 (pairs ends)
 
 abbrev pub drawn-meaning : ℕ → List ℕ → Meaning

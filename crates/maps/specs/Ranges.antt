@@ -38,9 +38,11 @@ pairs-getD (a ∷ (b ∷ r)) (suc i) h =
     rw (e, f) (pairs-getD r i k)
 
 pub drawn-length : (l : List ℕ) → length (drawn-links l) ≡ min 4294967295 (length (pairs l))
+unfolding drawn-links
 drawn-length l = length-take 4294967295 (pairs l)
 
 pub drawn-getD : (l : List ℕ) (i : ℕ) → i < 4294967295 → i < length (pairs l) → getD (drawn-links l) i (0, 0) ≡ (getD l (2 * i) 0, getD l (2 * i + 1) 0)
+unfolding drawn-links
 drawn-getD l i a b = getD-take 4294967295 (pairs l) i (0, 0) a ∙ pairs-getD l i b
 
 abbrev Ends-fit : Link → Type 0

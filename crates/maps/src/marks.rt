@@ -25,8 +25,8 @@ impl Drop for Marks<'_> {
     fn drop(self)
         ensures { λ _. ⌜ Cleared (self .entry .n) (now (self .entry .bytes)) (now (self .exit .0)) ⌝ }
     {
-        let Marks { bytes, n } = self;
-        clear(bytes, n);
+        let Marks { bytes, n: spaces } = self;
+        clear(bytes, spaces);
     }
 }
 
