@@ -10,7 +10,7 @@ use lib.Dec.{eqb}
 use lib.ListN.{length, getD, take, drop}
 use Rattle.std.proofs.shelf.Lists.{take-all, drop-all, drop-more, length-drop, length-take}
 use Rattle.std.proofs.shelf.Tests.{cases-lt, cases-bool, eq-eqb, ne-eqb, or-parts}
-use Rattle.maps.specs.Reading.{row, filled, names, read-to, reading}
+use Rattle.maps.specs.Reading.{row, filled, names, read-to, reading-rows}
 
 -- a part that ends where the list does is as long as the list allows
 pub window : (t : List ℕ) (a k s e : ℕ) → s ≡ min a (length t) → e ≡ min (s + k) (length t) → take (e - s) (drop s t) ≡ take k (drop a t)
@@ -38,10 +38,10 @@ abbrev pub read-row : List ℕ → ℕ → ℕ → (ℕ → Bool × ℕ) → Boo
 read-row [] x c next = next c
 read-row (y ∷ ys) x c next = cond (eqb y 65535) (next c) (cond (eqb y x) (true, c + 1) (read-row ys x (c + 1) next))
 
--- what comes after a row: the row of the higher space, unless this was it
+-- what comes after a row: the row of the other space, unless this was it
 abbrev pub rest : ℕ → List ℕ → ℕ → ℕ → Bool → ℕ → Bool × ℕ
-rest k t low high true c = (false, c)
-rest k t low high false c = read-row (row k t high) low c (λ d. (false, d))
+rest k t v w true c = (false, c)
+rest k t v w false c = read-row (row k t w) v c (λ d. (false, d))
 
 -- the steps of the loop
 module _ (r : List ℕ) (i x c : ℕ) (next : ℕ → Bool × ℕ) where
@@ -102,20 +102,20 @@ last-row r x c =
       | inr e ↦ let m = none-named (filled r) x e in rw (e, m)
     ]
 
-module _ (k : ℕ) (t : List ℕ) (a b low high : ℕ) (r : List ℕ) where
-  pub first-row : low ≡ min a b → high ≡ max a b → r ≡ row k t low → (read-row r high 0 (rest k t low high false) ≡ reading k t a b) × (length r ≤ k)
-  first-row l h e = (
-    rw (e, l, h)
-        (read-row-is (row k t (min a b)) (max a b) 0 (rest k t (min a b) (max a b) false)
-        ∙ rw (last-row (row k t (max a b)) (min a b) (0 + length (filled (row k t (min a b)))), zero-add (read-to (max a b) (filled (row k t (min a b)))), zero-add (length (filled (row k t (min a b)))))),
-    omega (arith, ap length e, row-short k t low),
+module _ (k : ℕ) (t : List ℕ) (v w : ℕ) (r : List ℕ) where
+  pub first-row : r ≡ row k t v → (read-row r w 0 (rest k t v w false) ≡ reading-rows k t v w) × (length r ≤ k)
+  first-row e = (
+    rw e
+        (read-row-is (row k t v) w 0 (rest k t v w false)
+        ∙ rw (last-row (row k t w) v (0 + length (filled (row k t v))), zero-add (read-to w (filled (row k t v))), zero-add (length (filled (row k t v))))),
+    omega (arith, ap length e, row-short k t v),
   )
 
-  pub second-row : (c : ℕ) (last : Bool) → last ≡ false → r ≡ row k t high → rest k t low high last c ≡ reading k t a b → (read-row r low c (rest k t low high true) ≡ reading k t a b) × (length r ≤ k)
+  pub second-row : (c : ℕ) (last : Bool) → last ≡ false → r ≡ row k t w → rest k t v w last c ≡ reading-rows k t v w → (read-row r v c (rest k t v w true) ≡ reading-rows k t v w) × (length r ≤ k)
   second-row c last l e h = (
-    rw e (sym (ap (λ (z : Bool). rest k t low high z c) l) ∙ h),
-    omega (arith, ap length e, row-short k t high),
+    rw e (sym (ap (λ (z : Bool). rest k t v w z c) l) ∙ h),
+    omega (arith, ap length e, row-short k t w),
   )
 
-  pub no-more : (c : ℕ) (last : Bool) → last ≡ true → rest k t low high last c ≡ reading k t a b → (false, c) ≡ reading k t a b
-  no-more c last l h = sym (ap (λ (z : Bool). rest k t low high z c) l) ∙ h
+  pub no-more : (c : ℕ) (last : Bool) → last ≡ true → rest k t v w last c ≡ reading-rows k t v w → (false, c) ≡ reading-rows k t v w
+  no-more c last l h = sym (ap (λ (z : Bool). rest k t v w z c) l) ∙ h

@@ -23,7 +23,7 @@ room i n zero l = omega (arith, mul-zero n)
 room i n (suc k) l = omega arith
 
 module _ (w h i : ℕ) where
-  pub pair-beside : i < h * (w - 1) → Some (beside w (i / (w - 1)) (i % (w - 1))) ≡ pair-at (hex-links w h) i
+  pair-beside : i < h * (w - 1) → Some (beside w (i / (w - 1)) (i % (w - 1))) ≡ pair-at (hex-links w h) i
   unfolding hex-links
   pair-beside l =
       let z = room i h (w - 1) l in
@@ -33,45 +33,40 @@ module _ (w h i : ℕ) where
       (getD-append-left (blocks (beside w) (w - 1) 0 h) (blocks (across w) (2 * w - 1) 0 (h - 1)) (0, 0) i k
       ∙ at-blocks (beside w) (w - 1) h i (0, 0) z (div-below i (w - 1) h z l))
 
-  pub pair-across : 1 ≤ w → h * (w - 1) ≤ i → (i - h * (w - 1)) / (2 * w - 1) < h - 1
-      → Some (across w ((i - h * (w - 1)) / (2 * w - 1)) ((i - h * (w - 1)) % (2 * w - 1))) ≡ pair-at (hex-links w h) i
+  pair-across : 1 ≤ w → i / (2 * w - 1) < h - 1 → Some (across w (i / (2 * w - 1)) (i % (2 * w - 1))) ≡ pair-at (hex-links w h) (h * (w - 1) + i)
   unfolding hex-links
-  pair-across o l r =
+  pair-across o r =
       let z : 0 < 2 * w - 1 = omega arith in
-      let p = mul-add-lt ((i - h * (w - 1)) / (2 * w - 1)) (2 * w - 1) ((i - h * (w - 1)) % (2 * w - 1)) (h - 1) r (mod-below (i - h * (w - 1)) (2 * w - 1) z) in
-      let s = div-add-mod' (i - h * (w - 1)) (2 * w - 1) in
-      some-pair (hex-links w h) i _ (omega (arith, length-hex w h))
-      (getD-append-right (blocks (beside w) (w - 1) 0 h) (blocks (across w) (2 * w - 1) 0 (h - 1)) (h * (w - 1)) i (0, 0) (length-blocks (beside w) (w - 1) 0 h) l
-      ∙ at-blocks (across w) (2 * w - 1) (h - 1) (i - h * (w - 1)) (0, 0) z r)
+      let p = mul-add-lt (i / (2 * w - 1)) (2 * w - 1) (i % (2 * w - 1)) (h - 1) r (mod-below i (2 * w - 1) z) in
+      let s = div-add-mod' i (2 * w - 1) in
+      let e : h * (w - 1) + i - h * (w - 1) ≡ i = omega arith in
+      some-pair (hex-links w h) (h * (w - 1) + i) _ (omega (arith, length-hex w h))
+      (getD-append-right (blocks (beside w) (w - 1) 0 h) (blocks (across w) (2 * w - 1) 0 (h - 1)) (h * (w - 1)) (h * (w - 1) + i) (0, 0) (length-blocks (beside w) (w - 1) 0 h) (omega arith)
+      ∙ (ap (λ (j : ℕ). getD (blocks (across w) (2 * w - 1) 0 (h - 1)) j (0, 0)) e
+      ∙ at-blocks (across w) (2 * w - 1) (h - 1) i (0, 0) z r))
 
-  pub pair-past : 1 ≤ w → h * (w - 1) ≤ i → h - 1 ≤ (i - h * (w - 1)) / (2 * w - 1) → None ≡ pair-at (hex-links w h) i
-  pair-past o l r = no-pair (hex-links w h) i (omega (arith, length-hex w h, div-add-mod' (i - h * (w - 1)) (2 * w - 1), mul-le-mul-right (2 * w - 1) r))
+  pub pair-past : 1 ≤ w → h - 1 ≤ i / (2 * w - 1) → None ≡ pair-at (hex-links w h) (h * (w - 1) + i)
+  pair-past o r = no-pair (hex-links w h) (h * (w - 1) + i) (omega (arith, length-hex w h, div-add-mod' i (2 * w - 1), mul-le-mul-right (2 * w - 1) r))
 
 -- the same, for two ends that are known by their rows and columns
-abbrev gap : ℕ → ℕ → ℕ → ℕ
-gap w h i = (i - h * (w - 1)) / (2 * w - 1)
-
-abbrev step : ℕ → ℕ → ℕ → ℕ
-step w h i = (i - h * (w - 1)) % (2 * w - 1)
-
 module _ (w h i a b : ℕ) where
-  pub ends-beside : i < h * (w - 1) → a ≡ space-at w (i / (w - 1)) (i % (w - 1)) → b ≡ space-at w (i / (w - 1)) (i % (w - 1) + 1)
-      → Some (a, b) ≡ pair-at (hex-links w h) i
+  pub ends-beside : i < h * (w - 1) → a ≡ space-at w (i / (w - 1)) (i % (w - 1)) → b ≡ space-at w (i / (w - 1)) (i % (w - 1) + 1) →
+      Some (a, b) ≡ pair-at (hex-links w h) i
   ends-beside l p q = rw (p, q) (pair-beside w h i l)
 
-  pub ends-even : 1 ≤ w → h * (w - 1) ≤ i → gap w h i < h - 1 → gap w h i % 2 ≡ 0
-      → a ≡ space-at w (gap w h i) ((step w h i + 1) / 2) → b ≡ space-at w (gap w h i + 1) (step w h i / 2)
-      → Some (a, b) ≡ pair-at (hex-links w h) i
-  ends-even o l r e p q =
-      let t : eqb (gap w h i % 2) 0 ≡ true = eq-eqb (gap w h i % 2) 0 e in
-      rw (p, q) (rw t at (pair-across w h i o l r))
+  pub ends-even : 1 ≤ w → i / (2 * w - 1) < h - 1 → i / (2 * w - 1) % 2 ≡ 0 →
+      a ≡ space-at w (i / (2 * w - 1)) ((i % (2 * w - 1) + 1) / 2) → b ≡ space-at w (i / (2 * w - 1) + 1) (i % (2 * w - 1) / 2) →
+      Some (a, b) ≡ pair-at (hex-links w h) (h * (w - 1) + i)
+  ends-even o r e p q =
+      let t : eqb (i / (2 * w - 1) % 2) 0 ≡ true = eq-eqb (i / (2 * w - 1) % 2) 0 e in
+      rw (p, q) (rw t at (pair-across w h i o r))
 
-  pub ends-odd : 1 ≤ w → h * (w - 1) ≤ i → gap w h i < h - 1 → (gap w h i % 2 ≡ 0 → ⊥)
-      → a ≡ space-at w (gap w h i) (step w h i / 2) → b ≡ space-at w (gap w h i + 1) ((step w h i + 1) / 2)
-      → Some (a, b) ≡ pair-at (hex-links w h) i
-  ends-odd o l r e p q =
-      let t : eqb (gap w h i % 2) 0 ≡ false = ne-eqb (gap w h i % 2) 0 e in
-      rw (p, q) (rw t at (pair-across w h i o l r))
+  pub ends-odd : 1 ≤ w → i / (2 * w - 1) < h - 1 → (i / (2 * w - 1) % 2 ≡ 0 → ⊥) →
+      a ≡ space-at w (i / (2 * w - 1)) (i % (2 * w - 1) / 2) → b ≡ space-at w (i / (2 * w - 1) + 1) ((i % (2 * w - 1) + 1) / 2) →
+      Some (a, b) ≡ pair-at (hex-links w h) (h * (w - 1) + i)
+  ends-odd o r e p q =
+      let t : eqb (i / (2 * w - 1) % 2) 0 ≡ false = ne-eqb (i / (2 * w - 1) % 2) 0 e in
+      rw (p, q) (rw t at (pair-across w h i o r))
 
 -- where the row and the columns of a link between neighbours lie
 pub row-beside : (w h i : ℕ) → i < h * (w - 1) → i / (w - 1) < h

@@ -21,7 +21,7 @@ use Rattle.maps.specs.LinkChecks.{at-place, Passes, Ends-good, First-bad-link,
 use Rattle.maps.specs.Chains.{Chains}
 use Rattle.maps.specs.Repeats.{First-repeat, Same-past}
 use Rattle.maps.specs.Refusals.{list-number}
-use Rattle.maps.specs.Listing.{Too-large, Lent, Decides, list-row, Sound-to, Refuses-at, Read-list, Listed}
+use Rattle.maps.specs.Listing.{Too-large, Too-short, Lent, Sound-to, Refuses-at, Read-list, Read-into}
 use Rattle.maps.proofs.Good.{refused-13, accepted}
 
 -- the same number of spaces, said in another way
@@ -108,18 +108,8 @@ module _ {n : ℕ} {list copy : List Link} {f : ℕ} (same-length : length copy 
 
 -- the call as a whole
 
-module _ (s m a b c d n l : ℕ) (es : s ≡ n) (em : m ≡ l) where
-  pub room-passed : Decides (list-row s m a b c d) (Ok tt) → (Too-large n l → ⊥) × ((d < n) ⊎ ((a < l) ⊎ ((b < n) ⊎ (c < l))) → ⊥)
-  room-passed h =
-      let k : Decides (list-row n l a b c d) (Ok tt) = subst (λ (x : ℕ). Decides (list-row x l a b c d) (Ok tt)) es (subst (λ (x : ℕ). Decides (list-row s x a b c d) (Ok tt)) em h) in
-      elim k [
-        | inl x ↦ absurd (x .1)
-        | inr (large, inl x) ↦ absurd (x .1)
-        | inr (large, inr (short, _)) ↦ (large, short)
-      ]
-
 -- the numbers that the checks leave
-pub room-is : (n m a b c d : ℕ) → (Too-large n m → ⊥) → ((d < n) ⊎ ((a < m) ⊎ ((b < n) ⊎ (c < m))) → ⊥) → (n ≤ 4096) × (m ≤ 32768) × (n ≤ d) × (m ≤ a) × (n ≤ b) × (m ≤ c)
+pub room-is : (n m a b c d : ℕ) → (Too-large n m → ⊥) → (Too-short n m a b c d → ⊥) → (n ≤ 4096) × (m ≤ 32768) × (n ≤ d) × (m ≤ a) × (n ≤ b) × (m ≤ c)
 room-is n m a b c d large short = (
   elim (cases-lt 4096 n) [ inl x ↦ absurd (large (inr (inl x))) | inr x ↦ x ],
   elim (cases-lt 32768 m) [ inl x ↦ absurd (large (inr (inr x))) | inr x ↦ x ],
@@ -138,25 +128,17 @@ cleared-again n n₁ n₂ n₃ a b c d e₁ e₂ e₃ p q r =
     }
 
 module _ (map : Meaning) (lent : Lent) (r : Result (Unit {0}) ListRefusal) (n m : ℕ) (links : List Link) (head : List ℕ) (next : List Link) (marks : List ℕ) (en : n ≡ map .spaces) (em : m ≡ length (map .links)) where
-  pub listed : (Too-large (map .spaces) (length (map .links)) → ⊥) →
-      ((length (lent .marks) < map .spaces) ⊎ ((length (lent .links) < length (map .links)) ⊎ ((length (lent .head) < map .spaces) ⊎ (length (lent .next) < length (map .links)))) → ⊥) →
-      length links ≡ m - 0 → length head ≡ n - 0 → length next ≡ m - 0 → Read-list (map .spaces) (map .links) links head next r → Cleared (map .spaces) (lent .marks) marks →
-      Listed map lent r (record { links = links ++ drop (m - 0) (lent .links); head = head ++ drop (n - 0) (lent .head); next = next ++ drop (m - 0) (lent .next); marks = marks })
-  listed large short ll lh ln read clear =
-      inr (
-        large,
-        inr (
-          short,
-          (
-            subst (λ (x : List Link). Read-list (map .spaces) (map .links) x (take (map .spaces) (head ++ drop (n - 0) (lent .head))) (take (length (map .links)) (next ++ drop (m - 0) (lent .next))) r) (sym (take-at links (drop (m - 0) (lent .links)) (length (map .links)) (omega arith)))
-                (subst (λ (x : List ℕ). Read-list (map .spaces) (map .links) links x (take (length (map .links)) (next ++ drop (m - 0) (lent .next))) r) (sym (take-at head (drop (n - 0) (lent .head)) (map .spaces) (omega arith)))
-                (subst (λ (x : List Link). Read-list (map .spaces) (map .links) links head x r) (sym (take-at next (drop (m - 0) (lent .next)) (length (map .links)) (omega arith))) read)),
-            record {
-              links = drop-append-drop (m - 0) (lent .links) links (length (map .links)) (omega arith) ll;
-              head = drop-append-drop (n - 0) (lent .head) head (map .spaces) (omega arith) lh;
-              next = drop-append-drop (m - 0) (lent .next) next (length (map .links)) (omega arith) ln;
-              marks = clear;
-            },
-          ),
-        ),
-      )
+  pub listed : length links ≡ m - 0 → length head ≡ n - 0 → length next ≡ m - 0 → Read-list (map .spaces) (map .links) links head next r → Cleared (map .spaces) (lent .marks) marks →
+      Read-into map lent r (record { links = links ++ drop (m - 0) (lent .links); head = head ++ drop (n - 0) (lent .head); next = next ++ drop (m - 0) (lent .next); marks = marks })
+  listed ll lh ln read clear =
+      record {
+        read = subst (λ (x : List Link). Read-list (map .spaces) (map .links) x (take (map .spaces) (head ++ drop (n - 0) (lent .head))) (take (length (map .links)) (next ++ drop (m - 0) (lent .next))) r) (sym (take-at links (drop (m - 0) (lent .links)) (length (map .links)) (omega arith)))
+            (subst (λ (x : List ℕ). Read-list (map .spaces) (map .links) links x (take (length (map .links)) (next ++ drop (m - 0) (lent .next))) r) (sym (take-at head (drop (n - 0) (lent .head)) (map .spaces) (omega arith)))
+            (subst (λ (x : List Link). Read-list (map .spaces) (map .links) links head x r) (sym (take-at next (drop (m - 0) (lent .next)) (length (map .links)) (omega arith))) read));
+        kept = record {
+          links = drop-append-drop (m - 0) (lent .links) links (length (map .links)) (omega arith) ll;
+          head = drop-append-drop (n - 0) (lent .head) head (map .spaces) (omega arith) lh;
+          next = drop-append-drop (m - 0) (lent .next) next (length (map .links)) (omega arith) ln;
+          marks = clear;
+        };
+      }

@@ -25,11 +25,15 @@ pub record Lent : Type 0 where
   pub next : List Link
   pub marks : List ℕ
 
--- the checks before the list is read, with the lengths of the memory lent
+-- the memory lent is too short, by its lengths
+abbrev pub Too-short : (spaces links : ℕ) (copy head next marks : ℕ) → Type 0
+Too-short n m copy head next marks = (marks < n) ⊎ ((copy < m) ⊎ ((head < n) ⊎ (next < m)))
+
+-- the checks before the list is read
 abbrev pub list-row : (spaces links : ℕ) (copy head next marks : ℕ) → List Check
 list-row n m copy head next marks =
     (10, Too-large n m)
-    ∷ ((21, (marks < n) ⊎ ((copy < m) ⊎ ((head < n) ⊎ (next < m))))
+    ∷ ((21, Too-short n m copy head next marks)
     ∷ [])
 
 abbrev pub Decides : List Check → Result (Unit {0}) ListRefusal → Type 0
@@ -63,11 +67,14 @@ pub record Kept-past (n m : ℕ) (lent left : Lent) : Type 0 where
   pub next : drop m (left .next) ≡ drop m (lent .next)
   pub marks : Cleared n (lent .marks) (left .marks)
 
+-- the list was read into the memory lent
+pub record Read-into (map : Meaning) (lent : Lent) (r : Result (Unit {0}) ListRefusal) (left : Lent) : Type 0 where
+  pub read : Read-list (map .spaces) (map .links) (take (length (map .links)) (left .links)) (take (map .spaces) (left .head)) (take (length (map .links)) (left .next)) r
+  pub kept : Kept-past (map .spaces) (length (map .links)) lent left
+
 -- the whole call
 abbrev pub Listed : Meaning → Lent → Result (Unit {0}) ListRefusal → Lent → Type 0
 Listed map lent r left =
-    let n : ℕ = map .spaces in
-    let m : ℕ = length (map .links) in
-    decided (list-row n m (length (lent .links)) (length (lent .head)) (length (lent .next)) (length (lent .marks)))
+    decided (list-row (map .spaces) (length (map .links)) (length (lent .links)) (length (lent .head)) (length (lent .next)) (length (lent .marks)))
     (λ number. List-refused r number None × (left ≡ lent))
-    (Read-list n (map .links) (take m (left .links)) (take n (left .head)) (take m (left .next)) r × Kept-past n m lent left)
+    (Read-into map lent r left)

@@ -24,9 +24,13 @@ abbrev pub read-to : ℕ → List ℕ → ℕ
 read-to x [] = 0
 read-to x (c ∷ cells) = cond (eqb c x) 1 (1 + read-to x cells)
 
--- is the link of a and b in the table, and how many cells are read: the row of the lower space first, then, unless the higher is found there, the row of the higher
+-- is the link of two spaces in the table, and how many cells are read: the row of the one first, then, unless it names the other, the row of the other
+abbrev pub reading-rows : (k : ℕ) → List ℕ → ℕ → ℕ → Bool × ℕ
+reading-rows k table v w =
+    let front : List ℕ = filled (row k table v) in
+    let back : List ℕ = filled (row k table w) in
+    cond (names w front) (true, read-to w front) (names v back, length front + read-to v back)
+
+-- the row of the lower space comes first
 abbrev pub reading : (k : ℕ) → List ℕ → ℕ → ℕ → Bool × ℕ
-reading k table a b =
-    let low : List ℕ = filled (row k table (min a b)) in
-    let high : List ℕ = filled (row k table (max a b)) in
-    cond (names (max a b) low) (true, read-to (max a b) low) (names (min a b) high, length low + read-to (min a b) high)
+reading k table a b = reading-rows k table (min a b) (max a b)

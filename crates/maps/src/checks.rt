@@ -1,6 +1,6 @@
 ghost use Prim.Native.Nat.{ℕ, _<_, _≤_};
 ghost use Rattle.maps.specs.Links.{pair-at};
-ghost use Rattle.maps.specs.Listing.{Bad-ends, Decides, Listed, Read-list, Refuses-at, Sound-to, list-row};
+ghost use Rattle.maps.specs.Listing.{Bad-ends, Decides, Listed, Read-into, Read-list, Refuses-at, Sound-to, Too-large, Too-short, list-row};
 ghost use Rattle.maps.specs.Repeats.{None-met, Same-past};
 ghost use denote.Ref.{name};
 ghost use lib.ListN.{getD, length};
@@ -91,6 +91,30 @@ fn check_parts<M: Map>(
     Ok(())
 }
 
+// Checks the links of a map that is not too large, in memory that suffices for it.
+fn check_lists<M: Map>(
+    map: &M,
+    links: &mut [(u16, u16)],
+    head: &mut [u16],
+    next: &mut [(u16, u16)],
+    marks: &mut [u8],
+) -> Result<(), ListRefusal>
+    requires size { ⌜ (Too-large (meaning (now map) .spaces) (length (meaning (now map) .links)) → ⊥) ⌝ }
+    requires room { ⌜ (Too-short (meaning (now map) .spaces) (length (meaning (now map) .links)) (length (now links)) (length (now head)) (length (now next)) (length (now marks)) → ⊥) ⌝ }
+    ensures { λ r. ⌜ Read-into (meaning (now (map .entry))) (record { links = now (links .entry); head = now (head .entry); next = now (next .entry); marks = now (marks .entry) }) r (record { links = now (links .exit); head = now (head .exit); next = now (next .exit); marks = now (marks .exit) }) ⌝ }
+{
+    let n = map.spaces() as usize;
+    let m = map.links() as usize;
+    let mut met = Marks::new(marks, n);
+    check_parts(
+        map,
+        &mut links[0..m],
+        &mut head[0..n],
+        &mut next[0..m],
+        &mut met,
+    )
+}
+
 // Checks a map's list of links: its size, the memory lent, then each link in list order. An accepted list is left in `links`, chained by `head` and `next`; the marks end as 0.
 pub fn check_links<M: Map>(
     map: &M,
@@ -102,14 +126,5 @@ pub fn check_links<M: Map>(
     ensures { λ r. ⌜ Listed (meaning (now (map .entry))) (record { links = now (links .entry); head = now (head .entry); next = now (next .entry); marks = now (marks .entry) }) r (record { links = now (links .exit); head = now (head .exit); next = now (next .exit); marks = now (marks .exit) }) ⌝ }
 {
     check_room(map.spaces(), map.links(), links, head, next, marks)?;
-    let n = map.spaces() as usize;
-    let m = map.links() as usize;
-    let mut met = Marks::new(marks, n);
-    check_parts(
-        map,
-        &mut links[0..m],
-        &mut head[0..n],
-        &mut next[0..m],
-        &mut met,
-    )
+    check_lists(map, links, head, next, marks)
 }

@@ -1,5 +1,5 @@
 ghost use Prim.Native.Nat.{_*_, _+_, _≤_};
-ghost use Rattle.maps.specs.Reading.{reading, row};
+ghost use Rattle.maps.specs.Reading.{reading, reading-rows, row};
 ghost use lib.ListN.{length};
 ghost use mathlib.Core.Path.{_≡_};
 
@@ -22,33 +22,44 @@ fn row_of(table: &[u16], depth: u16, space: u16) -> &[u16]
     &table[start..end]
 }
 
-// Reads a table of cells for the link of two spaces, `depth` cells to a row.
-pub fn read_link(table: &[u16], depth: u16, a: u16, b: u16) -> Reading
-    ensures answer { λ r. ⌜ (r .linked, r .cells) ≡ reading depth (now (table .entry)) a b ⌝ }
+// Reads the row of `v` for `w`, then the row of `w` for `v`.
+fn read_rows(table: &[u16], depth: u16, v: u16, w: u16) -> Reading
+    ensures answer { λ r. ⌜ (r .linked, r .cells) ≡ reading-rows depth (now (table .entry)) v w ⌝ }
     ensures few { λ r. ⌜ r .cells ≤ 2 * depth ⌝ }
 {
-    let low = a.min(b);
-    let high = a.max(b);
     let mut cells = 0u32;
-    let mut row = row_of(table, depth, low);
-    let mut sought = high;
+    let mut row = row_of(table, depth, v);
+    let mut sought = w;
     let mut last = false;
-    let linked = 'rows: loop {
+    'rows: loop {
         for cell in row {
             if *cell == EMPTY {
                 break;
             }
             cells += 1;
             if *cell == sought {
-                break 'rows true;
+                break 'rows Reading {
+                    linked: true,
+                    cells,
+                };
             }
         }
         if last {
-            break 'rows false;
+            break 'rows Reading {
+                linked: false,
+                cells,
+            };
         }
-        row = row_of(table, depth, high);
-        sought = low;
+        row = row_of(table, depth, w);
+        sought = v;
         last = true;
-    };
-    Reading { linked, cells }
+    }
+}
+
+// Reads a table of cells for the link of two spaces, `depth` cells to a row.
+pub fn read_link(table: &[u16], depth: u16, a: u16, b: u16) -> Reading
+    ensures answer { λ r. ⌜ (r .linked, r .cells) ≡ reading depth (now (table .entry)) a b ⌝ }
+    ensures few { λ r. ⌜ r .cells ≤ 2 * depth ⌝ }
+{
+    read_rows(table, depth, a.min(b), a.max(b))
 }

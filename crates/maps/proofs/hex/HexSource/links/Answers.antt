@@ -1,6 +1,0 @@
-use mathlib.Core.Path.{sym}
-use Rattle.maps.specs.Ranges.{length-hex}
-use Rattle.maps.proofs.hex.HexSource.links.Needs as need
-
-pub returns : need.returns
-returns c = sym (length-hex (c .args .self .now .width) (c .args .self .now .height))
