@@ -35,6 +35,17 @@ fn see_ends(ends: &[u16])
     }
 }
 
+// How many links a list of ends has.
+fn count_links(ends: &[u16]) -> u32
+    ensures { λ r. ⌜ r ≡ length (drawn-links (now (ends .entry))) ⌝ }
+{
+    let pairs = ends.len() / 2;
+    if pairs > u32::MAX as usize {
+        return u32::MAX;
+    }
+    pairs as u32
+}
+
 // The pair at a place: the numbers from there on, taken apart as first end, second end, rest.
 fn pair_from(ends: &[u16], place: u32) -> Option<(u16, u16)>
     ensures { λ r. ⌜ r ≡ pair-at (drawn-links (now (ends .entry))) place ⌝ }
@@ -62,11 +73,7 @@ pub impl<'a> Map for DrawnMap<'a> as DrawnSource {
     }
 
     fn links(&self) -> u32 {
-        let pairs = self.ends.len() / 2;
-        if pairs > u32::MAX as usize {
-            return u32::MAX;
-        }
-        pairs as u32
+        count_links(self.ends)
     }
 
     fn pair(&self, place: u32) -> Option<(u16, u16)> {
