@@ -1,0 +1,6 @@
+mod Decoding
+mod Guessing
+mod Machine
+mod Numbers
+mod Readings
+mod Together
