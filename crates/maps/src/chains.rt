@@ -7,14 +7,14 @@ ghost use mathlib.Core.Bool.{cond};
 ghost use mathlib.Core.Path.{_≡_};
 
 // The end of a link that is not `v`.
-pub(crate) fn far_end(link: (u16, u16), v: u16) -> u16
+pub fn far_end(link: (u16, u16), v: u16) -> u16
     ensures { λ r. ⌜ r ≡ other v link ⌝ }
 {
     if link.0 == v { link.1 } else { link.0 }
 }
 
 // Of the places after a link on the chains of its two ends, the one on the chain of `v`.
-pub(crate) fn place_after(link: (u16, u16), v: u16, after: (u16, u16)) -> u16
+pub fn place_after(link: (u16, u16), v: u16, after: (u16, u16)) -> u16
     ensures { λ r. ⌜ r ≡ cond (eqb (link .0) v) (after .0) (after .1) ⌝ }
 {
     if link.0 == v { after.0 } else { after.1 }

@@ -1,6 +1,6 @@
 // Maps: spaces and links, their sources, and what every layer asks of them.
 pub mod centre;
-mod chains;
+pub mod chains;
 pub mod checks;
 pub mod drawn;
 pub mod hex;

@@ -1,0 +1,14 @@
+mod Counts
+mod Places
+mod Peeling
+mod Cells
+mod Rings
+mod Rows
+mod Walk
+mod Build
+mod Entries
+mod Ends
+mod Neighbours
+mod Existence
+mod ReadOut
+mod Worked

@@ -1,0 +1,11 @@
+pub mod Colours
+pub mod Filling
+pub mod LookingUp
+pub mod Orders
+pub mod Outcome
+pub mod Parts
+pub mod Refusals
+pub mod Tables
+pub mod Theorems
+pub mod Walk
+pub mod WorkedCases
