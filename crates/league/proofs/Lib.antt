@@ -1,0 +1,5 @@
+mod Counting
+mod Laws
+mod Numbering
+mod Parts
+mod Rounding
