@@ -1,4 +1,3 @@
-ghost use Prim.Native.Nat.{_+_};
 ghost use Rattle.league.specs.Writing.{Puts};
 ghost use Rattle.std.specs.Written.{decimal};
 ghost use mathlib.Core.List.{[], _++_, _∷_};

@@ -1,0 +1,11 @@
+pub mod Crowding
+pub mod Laying
+pub mod Moves
+pub mod Order
+pub mod Pairs
+pub mod Settled
+pub mod Sums
+pub mod Tables
+pub mod Triangle
+pub mod Turning
+pub mod Uniform

@@ -1,0 +1,9 @@
+pub mod Bags
+pub mod Capacity
+pub mod Order
+pub mod Orientation
+pub mod Putting
+pub mod Reach
+pub mod Table
+pub mod Theorems
+pub mod Turning
