@@ -1,21 +1,20 @@
 -- The degrees and the first queue; and what the end of the work gives.
 use Prim.Native.Nat.{ℕ, zero, suc, _+_, _-_, _≤_, _<_}
 use mathlib.Core.Path.{_≡_, refl, sym, ap, subst, _∙_}
-use mathlib.Core.Bool.{Bool, true, false, cond, _&&_, _||_}
+use mathlib.Core.Bool.{Bool, true, false, _&&_, _||_}
 use mathlib.Core.List.{List, [], _∷_}
-use mathlib.Core.Logic.{_⊎_, inl, inr}
-use lib.Dec.{eqb, leb, ltb, T}
+use mathlib.Core.Logic.{inl, inr}
+use lib.Dec.{eqb, leb, ltb}
 use lib.ListN.{length, getD, set, take, drop}
 use native.Mathlib.Omega.{arith}
-use Rattle.std.specs.shelf.Lists.{countBy, All}
+use Rattle.std.specs.shelf.Lists.{All}
 use Rattle.std.proofs.shelf.Lists.{drop-all, take-all, drop-set, length-set, length-take, length-drop, getD-set-same, getD-set-other}
 use Rattle.std.proofs.shelf.Sums.{sumBy-more, countBy-le-length}
 use Rattle.std.proofs.shelf.Elements.{all-getD}
-use Rattle.std.proofs.shelf.Tests.{cases-eq, cases-bool, cases-lt, eqb-true, eq-eqb, ne-eqb, or-from, or-left, or-right, le-leb, lt-leb, leb-true, lt-ltb, le-ltb, and-left, and-right, and-from, ltb-true, eqb-true}
+use Rattle.std.proofs.shelf.Tests.{cases-eq, eqb-true, eq-eqb, ne-eqb, le-leb, lt-leb, lt-ltb, le-ltb, and-left, and-right, and-from, ltb-true, eqb-true}
 use Rattle.std.proofs.shelf.Ways.{tells}
 use Rattle.maps.specs.Links.{Link}
-use Rattle.maps.specs.Sets.{Spaces}
-use Rattle.maps.specs.Density.{joins-in, neighbours-in, Thick, Largest-thick}
+use Rattle.maps.specs.Density.{joins-in, neighbours-in, Largest-thick}
 use Rattle.maps.specs.LinkChecks.{Good-links}
 use Rattle.survey.specs.Orders.{times, Ordering}
 use Rattle.survey.specs.Filling.{outside, Peeled}
@@ -29,9 +28,6 @@ use Rattle.survey.proofs.Walk.{bit-le-one}
 
 joins-all : (c d v : ℕ) → (c ≡ d → ⊥) → bit ((eqb c v && true) || (eqb d v && true)) ≡ bit (eqb v c) + bit (eqb v d)
 joins-all c d v apart = grind (arith, tells)
-
-pub degrees-none : (n : ℕ) (links : List Link) (degree : List ℕ) → length degree ≡ n → ((v : ℕ) → v < n → getD degree v 0 ≡ 0) → Degrees n (take 0 links) degree
-degrees-none n links degree wide h = record { wide = wide; all = h }
 
 add-at : (n : ℕ) (xs : List ℕ) (a v : ℕ) → length xs ≡ n → a < n → getD (set xs a (getD xs a 0 + 1)) v 0 ≡ getD xs v 0 + bit (eqb v a)
 add-at n xs a v wide l =
@@ -113,10 +109,6 @@ seeding-more {k} {n} {order} {degree} {queued} {v} lv below s =
         ];
       },
     )
-
-pub seeding-all : {k n : ℕ} {order degree : List ℕ} {queued v : ℕ} → length degree ≡ n → n ≤ v → Seeding k n order degree queued v → Queue k n order degree queued
-seeding-all {k} {n} {order} {degree} {queued} {v} wide l s =
-    record { long = s .long; wide = wide; low = s .low; spaces = s .spaces; seen = λ w lw. s .seen w lw ∙ ap bit (ap (λ (b : Bool). b && leb (getD degree w 0) k) (lt-ltb w v (omega arith))) }
 
 -- the work, at its start and at its end
 

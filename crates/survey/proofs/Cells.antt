@@ -1,24 +1,24 @@
 -- Cells of a survey's table: each link has one, and one colour.
 use Prim.Native.Nat.{ℕ, zero, suc, _+_, _*_, _≤_, _<_}
 use mathlib.Core.Path.{_≡_, refl, sym, ap, _∙_}
-use mathlib.Core.Bool.{Bool, true, false, cond, _&&_, _||_}
+use mathlib.Core.Bool.{Bool, true, _&&_, _||_}
 use mathlib.Core.List.{List, [], _∷_}
 use mathlib.Core.Logic.{_⊎_, inl, inr}
-use lib.Dec.{eqb, ltb, T}
-use lib.ListN.{length, getD, take, drop}
+use lib.Dec.{eqb, T}
+use lib.ListN.{length, getD, drop}
 use native.Mathlib.Nat.{mul-le-mul-right}
 use native.Mathlib.Omega.{arith}
-use Rattle.std.specs.shelf.Lists.{countBy, All}
-use Rattle.std.proofs.shelf.Lists.{getD-take, getD-drop, getD-default, length-take, length-drop}
-use Rattle.std.proofs.shelf.Tests.{cases-eq, cases-bool, cases-order, eqb-true, eq-eqb, ne-eqb, and-from, and-parts, and-right, or-cases, lt-ltb, le-ltb, ltb-true}
-use Rattle.maps.specs.Links.{Link, same, some-same}
+use Rattle.std.specs.shelf.Lists.{All}
+use Rattle.std.proofs.shelf.Lists.{getD-take, getD-drop, length-take, length-drop}
+use Rattle.std.proofs.shelf.Tests.{cases-eq, cases-bool, cases-order, eqb-true, eq-eqb, and-from, and-parts, and-right, or-cases, lt-ltb, le-ltb, ltb-true}
+use Rattle.maps.specs.Links.{Link, same}
 use Rattle.maps.specs.LinkChecks.{Good-links}
 use Rattle.maps.specs.Reading.{row}
 use Rattle.survey.specs.Orders.{times, place, before, Ordering}
 use Rattle.survey.specs.Tables.{linked, cell, Table}
 use Rattle.survey.specs.Colours.{Coloured}
 use Rattle.maps.proofs.Good.{T-true, true-T}
-use Rattle.survey.proofs.Counts.{bit, same-bools, times-at, times-yes, times-no, times-more, count-yes}
+use Rattle.survey.proofs.Counts.{bit, times-at, times-no, times-more, count-yes}
 use Rattle.survey.proofs.Places.{place-apart}
 
 -- links

@@ -1,13 +1,13 @@
 -- Counts over lists, and sums below n.
 use Prim.Native.Nat.{ℕ, zero, suc, _+_, _≤_, _<_}
 use mathlib.Core.Path.{_≡_, refl, sym, ap, subst, _∙_}
-use mathlib.Core.Bool.{Bool, true, false, cond, _&&_, _||_}
-use mathlib.Core.List.{List, [], _∷_, _++_, map}
+use mathlib.Core.Bool.{Bool, true, false, cond, _&&_}
+use mathlib.Core.List.{List, [], _∷_}
 use mathlib.Core.Logic.{_⊎_, inl, inr}
 use lib.Dec.{eqb, T}
 use lib.ListN.{length, getD}
 use native.Mathlib.Omega.{arith}
-use Rattle.std.specs.shelf.Lists.{sumBy, countBy, All, kept-by}
+use Rattle.std.specs.shelf.Lists.{countBy, All}
 use Rattle.std.proofs.shelf.Sums.{sumBy-cons, getD-le-sumBy}
 use Rattle.std.proofs.shelf.Tests.{cases-eq, cases-bool, cases-lt, and-parts, and-from, or-cases, or-left, or-right, eqb-true, eq-eqb, ne-eqb}
 use Rattle.maps.specs.Links.{Link}

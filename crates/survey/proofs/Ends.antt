@@ -1,11 +1,11 @@
 -- What a survey leaves, from what its parts leave.
-use Prim.Native.Nat.{ℕ, _+_, _*_, _<_, _≤_}
+use Prim.Native.Nat.{ℕ, _*_, _≤_}
 use mathlib.Core.Path.{_≡_, refl, sym, ap, subst, _∙_}
 use mathlib.Core.List.{List, _++_}
-use mathlib.Core.Logic.{_⊎_, inl, inr}
+use mathlib.Core.Logic.{inl, inr}
 use lib.ListN.{length, take, drop}
 use native.Mathlib.Omega.{arith}
-use Rattle.std.specs.declared.option.Option.the-variants.{None, Some}
+use Rattle.std.specs.declared.option.Option.the-variants.{Some}
 use Rattle.std.specs.declared.result.Result.{Result}
 use Rattle.std.specs.declared.result.Result.the-variants.{Ok, Err}
 use Rattle.std.proofs.shelf.Lists.{take-append-drop, take-at, drop-at, length-take-le}
@@ -19,9 +19,8 @@ use Rattle.maps.specs.Refusals.{list-number, list-place}
 use Rattle.maps.proofs.Good.{links-good}
 use Rattle.survey.specs.declared.refusals.SurveyRefusal.{SurveyRefusal}
 use Rattle.survey.specs.Refusals.{survey-number, survey-place, from-list, Refused}
-use Rattle.survey.specs.Orders.{Ordering}
 use Rattle.survey.specs.Outcome as out
-use Rattle.survey.specs.Outcome.{Ordered, Too-dense, Dense-or-ordered}
+use Rattle.survey.specs.Outcome.{Dense-or-ordered}
 use Rattle.survey.specs.Parts.{Parts}
 use Rattle.survey.proofs.Peeling.{ordering-not-dense}
 use Rattle.survey.proofs.Cells.{one-cell, one-colour}

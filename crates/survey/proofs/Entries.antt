@@ -1,31 +1,29 @@
 -- The places of an order, and the table filled link by link.
-use Prim.Native.Nat.{ℕ, zero, suc, _+_, _-_, _*_, _≤_, _<_}
+use Prim.Native.Nat.{ℕ, zero, suc, _+_, _*_, _≤_, _<_}
 use mathlib.Core.Path.{_≡_, refl, sym, ap, subst, _∙_}
-use mathlib.Core.Bool.{Bool, true, false, cond, _&&_, _||_, not}
 use mathlib.Core.List.{List, [], _∷_, _++_}
 use mathlib.Core.Logic.{_⊎_, inl, inr}
-use lib.Dec.{eqb, leb, ltb}
-use lib.ListN.{length, getD, set, take, drop, replicate}
+use lib.Dec.{eqb, leb}
+use lib.ListN.{length, getD, set, take, replicate}
 use native.Mathlib.Nat.{mul-le-mul-right}
 use native.Mathlib.Omega.{arith}
 use Rattle.std.specs.shelf.Lists.{countBy, All}
-use Rattle.std.proofs.shelf.Lists.{take-more, take-all, length-set, length-replicate, getD-set-same, getD-set-other, getD-replicate, same-lists, getD-default}
+use Rattle.std.proofs.shelf.Lists.{take-more, take-all, length-set, length-replicate, getD-set-same, getD-set-other, getD-replicate}
 use Rattle.std.proofs.shelf.Sums.{sumBy-take-le, sumBy-cons}
-use Rattle.std.proofs.shelf.Elements.{all-getD, all-from-getD}
-use Rattle.std.proofs.shelf.Tests.{cases-eq, cases-bool, cases-lt, cases-order, eq-eqb, ne-eqb, le-leb, lt-leb, leb-true}
+use Rattle.std.proofs.shelf.Elements.{all-getD}
+use Rattle.std.proofs.shelf.Tests.{cases-eq, cases-lt, cases-order, eq-eqb, ne-eqb, le-leb, lt-leb}
 use Rattle.maps.specs.Links.{Link}
 use Rattle.maps.specs.Density.{joins-in, neighbours-in}
 use Rattle.maps.specs.LinkChecks.{Good-links}
-use Rattle.maps.specs.Reading.{row}
 use Rattle.survey.specs.Orders.{times, place, before, Ordering}
 use Rattle.survey.specs.Tables.{Table}
 use Rattle.survey.specs.Filling.{earlier-ends, Entered}
 use Rattle.survey.specs.Walk.{Filled, Placed}
-use Rattle.survey.proofs.Counts.{bit, times-at, total, total-tight, list-total, count-yes, count-no}
+use Rattle.survey.proofs.Counts.{bit, total}
 use Rattle.survey.proofs.Places.{place-at, place-apart}
 use Rattle.survey.proofs.Cells.{nowhere-else}
 use Rattle.survey.proofs.Build.{ends-at}
-use Rattle.survey.proofs.Rows.{entering, entering-none, entered-table, ends-length}
+use Rattle.survey.proofs.Rows.{entering, entering-none, entered-table}
 
 -- an ordering has nothing but spaces below n
 

@@ -1,10 +1,10 @@
 -- An order exists exactly where no set is thick.
-use Prim.Native.Nat.{ℕ, zero, suc, _+_, _≤_, _<_}
-use mathlib.Core.Path.{_≡_, refl, sym, ap, _∙_}
-use mathlib.Core.Bool.{Bool, true, false, _&&_}
+use Prim.Native.Nat.{ℕ, zero, suc, _≤_, _<_}
+use mathlib.Core.Path.{_≡_, refl, ap}
+use mathlib.Core.Bool.{_&&_}
 use mathlib.Core.List.{List, [], _∷_}
 use mathlib.Core.Logic.{_⊎_, inl, inr}
-use lib.Dec.{eqb, leb, T}
+use lib.Dec.{leb}
 use lib.ListN.{length}
 use native.Mathlib.Omega.{arith}
 use Rattle.std.specs.shelf.Lists.{All}
@@ -12,7 +12,7 @@ use Rattle.std.proofs.shelf.Tests.{cases-eq, cases-lt, eqb-true, eq-eqb, le-leb
 use Rattle.maps.specs.Links.{Link}
 use Rattle.maps.specs.Density.{neighbours-in, Dense}
 use Rattle.maps.specs.LinkChecks.{Good-links}
-use Rattle.survey.specs.Orders.{times, Ordering}
+use Rattle.survey.specs.Orders.{times}
 use Rattle.survey.specs.Filling.{outside, Peeled}
 use Rattle.survey.specs.Theorems.{Ordered-unless-dense}
 use Rattle.maps.proofs.Good.{T-true, true-T}

@@ -3,22 +3,21 @@ use Prim.Native.Nat.{ℕ, zero, suc, _+_, _≤_, _<_}
 use mathlib.Core.Path.{_≡_, refl, sym, ap, _∙_}
 use mathlib.Core.Bool.{Bool, true, false, cond, _&&_, _||_}
 use mathlib.Core.List.{List, [], _∷_}
-use mathlib.Core.Logic.{_⊎_, inl, inr}
+use mathlib.Core.Logic.{inl, inr}
 use lib.Dec.{eqb}
 use native.Mathlib.Omega.{arith}
-use native.Mathlib.Numerals.{add-one}
 use Rattle.std.specs.Iters.{counting}
-use Rattle.std.specs.shelf.Lists.{countBy, All}
+use Rattle.std.specs.shelf.Lists.{countBy}
 use Rattle.std.proofs.shelf.Sums.{sumBy-cons}
-use Rattle.std.proofs.shelf.Tests.{cases-bool, cases-eq, eq-eqb, ne-eqb}
+use Rattle.std.proofs.shelf.Tests.{cases-bool, cases-eq}
 use Rattle.std.proofs.shelf.Ways.{tells}
 use Rattle.maps.specs.Links.{Link, same}
-use Rattle.maps.specs.Sets.{Spaces, size}
+use Rattle.maps.specs.Sets.{Spaces}
 use Rattle.maps.specs.Density.{joins-in, neighbours-in}
 use Rattle.maps.specs.LinkChecks.{Good-links}
 use Rattle.survey.specs.Tables.{linked}
 use Rattle.survey.specs.Theorems.{Neighbours-counted}
-use Rattle.survey.proofs.Counts.{bit, count-yes, count-no}
+use Rattle.survey.proofs.Counts.{bit, count-yes}
 use Rattle.survey.proofs.Rows.{linked-count}
 
 -- the sum of f over the m numbers from i on

@@ -1,22 +1,22 @@
 -- Thick sets, peeling, and orders.
-use Prim.Native.Nat.{ℕ, zero, suc, _+_, _≤_, _<_}
-use mathlib.Core.Path.{_≡_, refl, sym, ap, _∙_}
-use mathlib.Core.Bool.{Bool, true, false, cond}
+use Prim.Native.Nat.{ℕ, _≤_, _<_}
+use mathlib.Core.Path.{_≡_, sym, ap}
+use mathlib.Core.Bool.{true}
 use mathlib.Core.List.{List, [], _∷_}
-use mathlib.Core.Logic.{_⊎_, inl, inr}
-use lib.Dec.{eqb, ltb, T}
-use lib.ListN.{length, getD}
+use mathlib.Core.Logic.{inl, inr}
+use lib.Dec.{T}
+use lib.ListN.{length}
 use native.Mathlib.Omega.{arith}
-use Rattle.std.specs.shelf.Lists.{countBy, All}
-use Rattle.std.proofs.shelf.Tests.{cases-eq, cases-bool, eqb-true, eq-eqb, ne-eqb, lt-ltb, ltb-true, cases-order}
+use Rattle.std.specs.shelf.Lists.{All}
+use Rattle.std.proofs.shelf.Tests.{cases-eq, eqb-true, eq-eqb, lt-ltb, ltb-true, cases-order}
 use Rattle.maps.specs.Links.{Link}
 use Rattle.maps.specs.Sets.{Spaces, Inside}
-use Rattle.maps.specs.Density.{neighbours-in, Thick, Dense, Largest-thick}
+use Rattle.maps.specs.Density.{neighbours-in, Thick, Dense}
 use Rattle.maps.specs.LinkChecks.{Good-links}
 use Rattle.survey.specs.Orders.{times, place, before, Ordering}
 use Rattle.survey.specs.Filling.{outside, Peeled}
 use Rattle.maps.proofs.Good.{T-true, true-T}
-use Rattle.survey.proofs.Counts.{bit, neighbours-le, times-yes, times-no, times-more, largest, list-total, total-tight}
+use Rattle.survey.proofs.Counts.{neighbours-le, times-yes, times-no, times-more, largest, list-total, total-tight}
 use Rattle.survey.proofs.Places.{place-here, place-on, place-apart}
 
 outside-more : (v w : ℕ) (placed : List ℕ) → (w ≡ v → ⊥) → outside placed w ≡ true → outside (v ∷ placed) w ≡ true

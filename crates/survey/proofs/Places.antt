@@ -1,16 +1,14 @@
 -- Places in an order.
 use Prim.Native.Nat.{ℕ, zero, suc, _+_, _≤_, _<_}
 use mathlib.Core.Path.{_≡_, refl, sym, ap, _∙_}
-use mathlib.Core.Bool.{Bool, true, false, cond}
 use mathlib.Core.List.{List, [], _∷_}
-use mathlib.Core.Logic.{_⊎_, inl, inr}
-use lib.Dec.{eqb, ltb}
+use mathlib.Core.Logic.{inl, inr}
+use lib.Dec.{eqb}
 use lib.ListN.{length, getD}
 use native.Mathlib.Omega.{arith}
-use native.Mathlib.Numerals.{one-add}
-use Rattle.std.proofs.shelf.Tests.{cases-eq, cases-bool, eqb-true, eq-eqb, ne-eqb, cond-true, cond-false, ltb-true}
+use Rattle.std.proofs.shelf.Tests.{cases-eq, eq-eqb, ne-eqb, cond-true, cond-false}
 use Rattle.survey.specs.Orders.{times, place}
-use Rattle.survey.proofs.Counts.{bit, times-yes, times-no, times-more, times-at}
+use Rattle.survey.proofs.Counts.{times-yes, times-no, times-at}
 
 pub place-here : (v : ℕ) (xs : List ℕ) → place (v ∷ xs) v ≡ 0
 place-here v xs = cond-true (eqb v v) 0 (1 + place xs v) (eq-eqb v v refl)

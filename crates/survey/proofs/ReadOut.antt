@@ -1,20 +1,22 @@
 -- By the reading rule the table of an order says yes exactly for the links.
-use Prim.Native.Nat.{ℕ, zero, suc, _+_, _*_, _≤_, _<_, min, max}
+use Prim.Native.Nat.{ℕ, suc, _+_, _-_, _*_, _≤_, _<_, min, max}
 use mathlib.Core.Path.{_≡_, refl, sym, ap, _∙_}
 use mathlib.Core.Bool.{Bool, true, false, cond, _&&_, _||_}
 use mathlib.Core.List.{List, [], _∷_}
-use mathlib.Core.Logic.{_⊎_, inl, inr}
-use lib.Dec.{eqb, ltb, T}
-use lib.ListN.{length, getD}
+use mathlib.Core.Logic.{inl, inr}
+use lib.Dec.{eqb, ltb}
+use lib.ListN.{length, getD, take, drop}
+use native.Mathlib.Nat.{mul-le-mul-right}
 use native.Mathlib.Omega.{arith}
+use Rattle.std.proofs.shelf.Lists.{drop-take, take-take}
 use Rattle.std.proofs.shelf.Sums.{sumBy-cons}
-use Rattle.std.proofs.shelf.Tests.{cases-eq, cases-lt, cases-bool, cases-order, eq-eqb, ne-eqb, cond-true, cond-false, lt-ltb, le-ltb}
+use Rattle.std.proofs.shelf.Tests.{cases-eq, cases-lt, cases-order, eq-eqb, ne-eqb, cond-true, cond-false, lt-ltb, le-ltb}
 use Rattle.std.proofs.shelf.Ways.{tells}
 use Rattle.maps.specs.Links.{Link}
 use Rattle.maps.specs.LinkChecks.{Good-links}
 use Rattle.maps.specs.Reading.{row, filled, names, read-to, reading}
 use Rattle.survey.specs.Orders.{times, place, before, Ordering}
-use Rattle.survey.specs.Tables.{linked, cell, Table}
+use Rattle.survey.specs.Tables.{linked, Table}
 use Rattle.survey.specs.Theorems.{Table-reads-links}
 use Rattle.survey.proofs.Counts.{bit, count-no}
 use Rattle.survey.proofs.Places.{place-apart}
@@ -88,6 +90,20 @@ module _ (k n : ℕ) (links : List Link) (g : Good-links n links) (small : n ≤
   both-rows a b la lb =
       rw (row-names a b la lb, row-names b a lb la, linked-swap links b a) (one-side (linked links a b) (before order a b) (before order b a) (apart a b))
 
+-- a row lies in the first n * k cells
+row-part : (k n : ℕ) (table : List ℕ) (v : ℕ) → v < n → row k table v ≡ row k (take (n * k) table) v
+row-part k n table v l =
+    let split : n * k ≡ v * k + (n * k - v * k) = omega (arith, mul-le-mul-right k l) in
+    let room : k ≤ n * k - v * k = omega (arith, mul-le-mul-right k l) in
+    sym (ap (λ (m : ℕ). take k (drop (v * k) (take m table))) split ∙ (ap (take k) (drop-take (v * k) (n * k - v * k) table) ∙ take-take k (n * k - v * k) (drop (v * k) table) room))
+
+module _ (k n : ℕ) (links : List Link) (g : Good-links n links) (small : n ≤ 65535) (order table : List ℕ) (o : Ordering k n links order) (t : Table k n links order (take (n * k) table)) where
+  whole-rows : (a b : ℕ) → a < n → b < n → (names b (filled (row k table a)) || names a (filled (row k table b))) ≡ linked links a b
+  whole-rows a b la lb =
+      ap (λ (x : List ℕ). names b (filled x) || names a (filled (row k table b))) (row-part k n table a la)
+      ∙ (ap (λ (x : List ℕ). names b (filled (row k (take (n * k) table) a)) || names a (filled x)) (row-part k n table b lb)
+      ∙ both-rows k n links g small order (take (n * k) table) o t a b la lb)
+
 pub table-reads-links : Table-reads-links
 table-reads-links k n links g small order table o t a b la lb =
     let first : reading k table a b .0 ≡ (names (max a b) (filled (row k table (min a b))) || names (min a b) (filled (row k table (max a b)))) = pick (names (max a b) (filled (row k table (min a b)))) (names (min a b) (filled (row k table (max a b)))) (read-to (max a b) (filled (row k table (min a b)))) (length (filled (row k table (min a b))) + read-to (min a b) (filled (row k table (max a b)))) in
@@ -95,9 +111,9 @@ table-reads-links k n links g small order table o t a b la lb =
       | inl l ↦
           let e : min a b ≡ a = omega arith in
           let f : max a b ≡ b = omega arith in
-          first ∙ rw (e, f) (both-rows k n links g small order table o t a b la lb)
+          first ∙ rw (e, f) (whole-rows k n links g small order table o t a b la lb)
       | inr l ↦
           let e : min a b ≡ b = omega arith in
           let f : max a b ≡ a = omega arith in
-          first ∙ (rw (e, f) (both-rows k n links g small order table o t b a lb la) ∙ linked-swap links b a)
+          first ∙ (rw (e, f) (whole-rows k n links g small order table o t b a lb la) ∙ linked-swap links b a)
     ]

@@ -1,18 +1,17 @@
 -- No colour holds a ring.
-use Prim.Native.Nat.{ℕ, zero, suc, _+_, _-_, _*_, _≤_, _<_}
+use Prim.Native.Nat.{ℕ, _+_, _-_, _≤_, _<_}
 use mathlib.Core.Path.{_≡_, refl, sym, _∙_}
-use mathlib.Core.Bool.{Bool, true}
+use mathlib.Core.Bool.{true}
 use mathlib.Core.List.{List}
 use mathlib.Core.Logic.{_⊎_, inl, inr}
 use lib.ListN.{length, getD}
 use native.Mathlib.Omega.{arith}
-use Rattle.std.specs.shelf.Lists.{All}
 use Rattle.std.proofs.shelf.Elements.{all-getD}
 use Rattle.std.proofs.shelf.Tests.{cases-eq, cases-order}
 use Rattle.maps.specs.Links.{Link}
 use Rattle.survey.specs.Orders.{place}
 use Rattle.survey.specs.Tables.{cell, Table}
-use Rattle.survey.specs.Colours.{Coloured, Ring}
+use Rattle.survey.specs.Colours.{Ring}
 use Rattle.survey.proofs.Counts.{largest}
 use Rattle.survey.proofs.Cells.{cell-says}
 

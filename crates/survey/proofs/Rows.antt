@@ -1,19 +1,19 @@
 -- A table filled link by link.
 use Prim.Native.Nat.{ℕ, zero, suc, _+_, _-_, _*_, _≤_, _<_}
-use mathlib.Core.Path.{_≡_, refl, sym, ap, ap₂, _∙_}
-use mathlib.Core.Bool.{Bool, true, false, cond, _&&_, _||_, not}
+use mathlib.Core.Path.{_≡_, refl, sym, ap, _∙_}
+use mathlib.Core.Bool.{Bool, true, false, cond, _&&_, _||_}
 use mathlib.Core.List.{List, [], _∷_, _++_, map}
 use mathlib.Core.Logic.{_⊎_, inl, inr}
-use lib.Dec.{eqb, ltb}
+use lib.Dec.{eqb}
 use lib.ListN.{length, getD, set, take, drop, replicate}
 use lib.Seq.{take-set-lt}
 use native.Mathlib.Nat.{mul-le-mul-right}
 use native.Mathlib.Omega.{arith}
-use Rattle.std.specs.shelf.Lists.{countBy, sumBy, kept-by, All}
+use Rattle.std.specs.shelf.Lists.{countBy, kept-by, All}
 use Rattle.std.proofs.shelf.Lists.{drop-set-lt, drop-set-add, take-set-le, length-set, length-append, length-map, length-replicate, map-append, append-assoc, append-nil, set-at, take-replicate, drop-replicate, getD-append-left, getD-append-right, getD-replicate}
-use Rattle.std.proofs.shelf.Sums.{sumBy-cons, sumBy-append, sumBy-push, length-kept-by}
+use Rattle.std.proofs.shelf.Sums.{sumBy-cons, sumBy-append, length-kept-by}
 use Rattle.std.proofs.shelf.Elements.{kept-by-append, all-getD, all-map, all-kept-by, all-weaker}
-use Rattle.std.proofs.shelf.Tests.{cases-eq, cases-bool, cases-lt, cases-order, eqb-true, eq-eqb, ne-eqb, cond-true, cond-false, and-left, and-right, and-from, and-parts, or-from, or-left, or-right, lt-ltb, le-ltb}
+use Rattle.std.proofs.shelf.Tests.{cases-eq, cases-bool, cases-lt, cases-order, eq-eqb, ne-eqb, cond-true, cond-false, and-left, and-right, and-from, or-from, or-left, or-right, lt-ltb, le-ltb}
 use Rattle.std.proofs.shelf.Ways.{tells}
 use Rattle.maps.specs.Links.{Link, same}
 use Rattle.maps.specs.Sets.{Spaces}
@@ -25,7 +25,7 @@ use Rattle.survey.specs.Orders.{times, place, before, Ordering}
 use Rattle.survey.specs.Tables.{linked, cell, Table}
 use Rattle.survey.specs.Filling.{earlier-ends, padded, Entered}
 use Rattle.survey.proofs.Counts.{bit, count-yes, count-no}
-use Rattle.survey.proofs.Cells.{row-long, row-cell}
+use Rattle.survey.proofs.Cells.{row-cell}
 
 pub entering-none : (k n : ℕ) (order : List ℕ) → Entered k n order [] (replicate (n * k) 65535)
 entering-none k n order =

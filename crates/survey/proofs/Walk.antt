@@ -1,17 +1,17 @@
 -- Placing one space: its links are walked along their chain.
-use Prim.Native.Nat.{ℕ, zero, suc, _+_, _-_, _*_, _≤_, _<_}
+use Prim.Native.Nat.{ℕ, zero, suc, _+_, _-_, _≤_, _<_}
 use mathlib.Core.Path.{_≡_, refl, sym, ap, subst, _∙_}
 use mathlib.Core.Bool.{Bool, true, false, cond, _&&_, _||_}
-use mathlib.Core.List.{List, [], _∷_, _++_}
-use mathlib.Core.Logic.{_⊎_, _≢_, inl, inr}
-use lib.Dec.{eqb, leb, ltb, T}
-use lib.ListN.{length, getD, set, take, drop}
+use mathlib.Core.List.{List, [], _∷_}
+use mathlib.Core.Logic.{inl, inr}
+use lib.Dec.{eqb, leb}
+use lib.ListN.{length, getD, set, drop}
 use native.Mathlib.Omega.{arith}
 use Rattle.std.specs.shelf.Lists.{countBy, All}
-use Rattle.std.proofs.shelf.Lists.{take-more, drop-drop, getD-drop, drop-set, drop-set-lt, drop-more, drop-all, length-set, length-drop, getD-set-same, getD-set-other, take-all}
-use Rattle.std.proofs.shelf.Sums.{sumBy-append, sumBy-take-drop, sumBy-cons, sumBy-more, countBy-more-no}
+use Rattle.std.proofs.shelf.Lists.{drop-drop, getD-drop, drop-set, drop-set-lt, drop-more, drop-all, length-set, length-drop, getD-set-same, getD-set-other}
+use Rattle.std.proofs.shelf.Sums.{sumBy-take-drop, sumBy-cons}
 use Rattle.std.proofs.shelf.Elements.{all-getD}
-use Rattle.std.proofs.shelf.Tests.{cases-eq, cases-bool, cases-lt, eqb-true, eq-eqb, ne-eqb, le-leb, lt-leb, leb-true, cond-both, or-cases, both-ways, or-parts, and-left}
+use Rattle.std.proofs.shelf.Tests.{cases-eq, cases-bool, cases-lt, eqb-true, eq-eqb, ne-eqb, le-leb, lt-leb, leb-true, cond-both, or-cases, both-ways}
 use Rattle.std.proofs.shelf.Ways.{tells}
 use Rattle.maps.proofs.Repeating.{same-of, same-not}
 use Rattle.maps.specs.Links.{Link, same}
@@ -20,8 +20,8 @@ use Rattle.maps.specs.LinkChecks.{Good-links}
 use Rattle.maps.specs.Chains.{other, touches, Next, Chains}
 use Rattle.survey.specs.Orders.{times}
 use Rattle.survey.specs.Filling.{outside, Peeled}
-use Rattle.survey.specs.Walk.{Queue, Work, Lower}
-use Rattle.survey.proofs.Counts.{bit, times-yes, times-no, count-no, list-total, total-le-n, total-tight, total, neighbours-le}
+use Rattle.survey.specs.Walk.{Work, Lower}
+use Rattle.survey.proofs.Counts.{bit, times-yes, times-no, count-no, list-total, total-tight}
 
 -- n spaces are not listed while one is missing
 pub room-left : (n : ℕ) (xs : List ℕ) → All (λ v. v < n) xs → ((v : ℕ) → v < n → times v xs ≤ 1) → (v : ℕ) → v < n → times v xs ≡ 0 → length xs < n

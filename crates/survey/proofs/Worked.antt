@@ -1,21 +1,21 @@
 -- The surveys worked by hand: each fact is a test that is computed.
-use Prim.Native.Nat.{ℕ, zero, suc, _≤_, _<_}
-use mathlib.Core.Path.{_≡_, refl, sym, ap, _∙_}
+use Prim.Native.Nat.{ℕ, zero, suc, _<_}
+use mathlib.Core.Path.{_≡_, refl, ap, _∙_}
 use mathlib.Core.Bool.{Bool, true, false, _&&_, _||_, not}
 use mathlib.Core.List.{List, [], _∷_}
-use mathlib.Core.Logic.{_⊎_, inl, inr}
+use mathlib.Core.Logic.{inl, inr}
 use lib.Dec.{eqb, ltb, leb, lit<, lit≤, T}
 use lib.ListN.{length, getD, take}
 use native.Mathlib.Omega.{arith}
 use Rattle.std.specs.shelf.Lists.{All}
-use Rattle.std.proofs.shelf.Tests.{cases-eq, cases-bool, and-parts, ltb-true, leb-true, eqb-true, eq-eqb}
+use Rattle.std.proofs.shelf.Tests.{cases-eq, and-parts, ltb-true, leb-true, eqb-true, eq-eqb}
 use Rattle.maps.specs.Links.{Link, some-same}
 use Rattle.maps.specs.Sets.{Spaces}
 use Rattle.maps.specs.Density.{neighbours-in, Dense, Largest-thick}
 use Rattle.maps.specs.HexLinks.{hex-links}
-use Rattle.maps.specs.LinkChecks.{Passes, All-links-good, Good-links}
+use Rattle.maps.specs.LinkChecks.{All-links-good}
 use Rattle.maps.proofs.Good.{links-good}
-use Rattle.survey.specs.Orders.{times, before, Ordering}
+use Rattle.survey.specs.Orders.{times, before}
 use Rattle.survey.specs.Filling.{outside, Peeled}
 use Rattle.survey.specs.WorkedCases.{listed, triangle, Worked-cases}
 use Rattle.maps.proofs.Good.{T-true, true-T}

@@ -2,7 +2,8 @@
 use mathlib.Core.Path.{_≡_}
 use mathlib.Core.Bool.{_&&_}
 use mathlib.Core.List.{List}
-use Prim.Native.Nat.{ℕ, _<_, _≤_}
+use Prim.Native.Nat.{ℕ, _*_, _<_, _≤_}
+use lib.ListN.{take}
 use Rattle.maps.specs.Links.{Link}
 use Rattle.maps.specs.Sets.{Spaces, size}
 use Rattle.maps.specs.Density.{neighbours-in, Dense}
@@ -18,11 +19,11 @@ Ordered-unless-dense =
     (((order : List ℕ) × Ordering k n links order) → Dense k n links → ⊥)
     × ((Dense k n links → ⊥) → (order : List ℕ) × Ordering k n links order)
 
--- By the reading rule the table of an order says yes exactly for the links.
+-- By the reading rule the table of an order says yes exactly for the links. The memory that holds the table may be longer.
 abbrev pub Table-reads-links : Type 0
 Table-reads-links =
     (k n : ℕ) (links : List Link) → Good-links n links → n ≤ 65535 →
-    (order table : List ℕ) → Ordering k n links order → Table k n links order table →
+    (order table : List ℕ) → Ordering k n links order → Table k n links order (take (n * k) table) →
     (a b : ℕ) → a < n → b < n → reading k table a b .0 ≡ linked links a b
 
 -- Counting links counts spaces: v has as many neighbours in s as there are spaces in s that are linked to v.

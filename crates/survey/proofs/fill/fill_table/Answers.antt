@@ -1,6 +1,5 @@
-use mathlib.Core.Path.{_≡_, sym, refl, _∙_}
+use mathlib.Core.Path.{refl}
 use native.Mathlib.Omega.{arith}
-use Prim.Native.Nat.{_*_}
 use lib.ListN.{length}
 use Rattle.survey.proofs.Build.{ends-at}
 use Rattle.survey.proofs.Entries.{filled-none, filled-all, turn-then, turn-else}

@@ -1,7 +1,7 @@
-use mathlib.Core.Path.{sym, subst}
+use mathlib.Core.Path.{sym}
 use native.Mathlib.Omega.{arith}
-use lib.ListN.{length, length-set}
-use Rattle.survey.proofs.Build.{ends-at, good-at, degrees-none, degrees-more, degree-fits, degrees-all}
+use lib.ListN.{length-set}
+use Rattle.survey.proofs.Build.{ends-at, good-at, degrees-more, degree-fits, degrees-all}
 use Rattle.survey.proofs.peel.count_links.Needs as need
 
 pub index-degree-a : need.index-degree-a

@@ -1,7 +1,5 @@
 use native.Mathlib.Omega.{arith}
 use mathlib.Core.Path.{sym, _∙_}
-use Prim.Native.Nat.{_+_}
-use lib.ListN.{length}
 use Rattle.survey.proofs.Walk.{settled-in, lower-start, lower-step, lower-end}
 use Rattle.survey.proofs.peel.lower.Needs as need
 
