@@ -1,8 +1,8 @@
 -- Links kept in rows overfill no set; the spaces reached, where all are full, are the smallest set that one link more overfills.
-use Prim.Native.Nat.{ℕ, zero, suc, _+_, _≤_, _<_}
+use Prim.Native.Nat.{ℕ, _≤_, _<_}
 use mathlib.Core.Path.{_≡_, refl, sym, ap, _∙_}
 use mathlib.Core.Bool.{Bool, true, false, cond, _&&_}
-use mathlib.Core.List.{List, [], _∷_}
+use mathlib.Core.List.{List, _∷_}
 use mathlib.Core.Logic.{inl, inr}
 use lib.ListN.{length, getD}
 use native.Mathlib.Omega.{arith}
@@ -14,7 +14,7 @@ use Rattle.maps.specs.Links.{Link}
 use Rattle.maps.specs.Sets.{Spaces, holds, held}
 use Rattle.crowding.specs.Bags.{Symmetric}
 use Rattle.crowding.specs.Capacity.{total, room}
-use Rattle.crowding.specs.Orientation.{cells, Rows, Oriented}
+use Rattle.crowding.specs.Orientation.{Rows, Oriented}
 use Rattle.crowding.specs.Reach.{Reach, at-u, at-v, on}
 use Rattle.maps.proofs.Good.{true-T, T-true}
 use Rattle.crowding.specs.Theorems.{Crowding}

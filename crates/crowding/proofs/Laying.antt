@@ -1,20 +1,19 @@
 -- Where a space with a free cell is reached, flips along the way make room for one more link.
-use Prim.Native.Nat.{ℕ, zero, suc, _+_, _≤_, _<_}
+use Prim.Native.Nat.{ℕ, zero, suc, _+_, _<_}
 use mathlib.Core.Path.{_≡_, refl, sym, ap, _∙_, subst}
-use mathlib.Core.Bool.{Bool, true, false, cond, _&&_}
+use mathlib.Core.Bool.{cond}
 use mathlib.Core.List.{List, [], _∷_, _++_}
 use mathlib.Core.Logic.{_⊎_, inl, inr}
 use lib.Dec.{eqb}
 use lib.ListN.{length, getD, take, drop}
 use native.Mathlib.Omega.{arith}
-use Rattle.std.specs.shelf.Lists.{countBy, All, Has}
+use Rattle.std.specs.shelf.Lists.{countBy, Has}
 use Rattle.std.proofs.shelf.Lists.{take-append-drop, drop-more}
 use Rattle.std.proofs.shelf.Sums.{sumBy-cons, sumBy-append}
-use Rattle.std.proofs.shelf.Elements.{all-has, all-append, all-take, all-drop, has-append-right}
+use Rattle.std.proofs.shelf.Elements.{all-has, has-append-right}
 use Rattle.std.proofs.shelf.Tests.{cases-eq, eq-eqb, ne-eqb, cond-true, cond-false}
 use Rattle.maps.specs.Links.{Link}
-use Rattle.crowding.specs.Bags.{Same-links}
-use Rattle.crowding.specs.Orientation.{cells, Rows, Oriented}
+use Rattle.crowding.specs.Orientation.{Rows, Oriented}
 use Rattle.crowding.specs.Putting.{Same, Put}
 use Rattle.crowding.specs.Reach.{Reach, at-u, at-v, on}
 use Rattle.crowding.specs.Theorems.{Can-lay}

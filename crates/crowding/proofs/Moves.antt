@@ -1,7 +1,7 @@
 -- A cell filled, emptied, or turned to the link's other end.
-use Prim.Native.Nat.{ℕ, zero, suc, _+_, _≤_, _<_}
+use Prim.Native.Nat.{ℕ, suc, _+_, _<_}
 use mathlib.Core.Path.{_≡_, refl, sym, ap, _∙_}
-use mathlib.Core.Bool.{Bool, true, false, cond, _&&_}
+use mathlib.Core.Bool.{Bool, true, cond}
 use mathlib.Core.List.{List, [], _∷_}
 use mathlib.Core.Logic.{inl, inr}
 use lib.Dec.{ltb}
@@ -13,7 +13,6 @@ use Rattle.std.proofs.shelf.Elements.{all-weaker}
 use Rattle.std.proofs.shelf.Tests.{cases-eq, lt-ltb, ltb-true}
 use Rattle.maps.specs.Links.{Link}
 use Rattle.crowding.specs.Bags.{Same-links}
-use Rattle.crowding.specs.Capacity.{total}
 use Rattle.crowding.specs.Orientation.{cells, Rows, Oriented}
 use Rattle.crowding.specs.Putting.{Same, Put}
 use Rattle.crowding.specs.Theorems.{Laid, Lifted, Flipped}

@@ -1,6 +1,6 @@
 -- An order in which each space has few links to those before it.
-use Prim.Native.Nat.{ℕ, zero, suc, _+_, _≤_, _<_}
-use mathlib.Core.Path.{_≡_, refl, sym, ap, _∙_}
+use Prim.Native.Nat.{ℕ, _+_, _≤_, _<_}
+use mathlib.Core.Path.{_≡_, refl, ap}
 use mathlib.Core.Bool.{Bool, true, false, cond, _&&_, _||_}
 use mathlib.Core.List.{List, [], _∷_}
 use mathlib.Core.Logic.{inl, inr}
@@ -11,7 +11,7 @@ use Rattle.std.proofs.shelf.Sums.{sumBy-cons}
 use Rattle.std.proofs.shelf.Tests.{cases-bool, cases-order, and-parts, and-from, or-left, or-right, eq-eqb, lt-ltb, cond-true}
 use Rattle.maps.specs.Links.{Link}
 use Rattle.maps.specs.Sets.{Spaces, holds, held}
-use Rattle.crowding.specs.Capacity.{total, room}
+use Rattle.crowding.specs.Capacity.{total}
 use Rattle.crowding.specs.Order.{earlier}
 use Rattle.crowding.specs.Theorems.{Ordered-fair}
 use Rattle.crowding.proofs.Sums.{bit, total-le, total-add, total-at}

@@ -1,7 +1,7 @@
 -- The spaces that are reached form a set, and so each link can be kept or some set is overfull with it.
 use Prim.Native.Nat.{ℕ, zero, suc, _+_, _≤_, _<_}
-use mathlib.Core.Path.{_≡_, refl, sym, ap, _∙_, subst}
-use mathlib.Core.Bool.{Bool, true, false, cond, _&&_, _||_, not}
+use mathlib.Core.Path.{_≡_, refl, ap, _∙_}
+use mathlib.Core.Bool.{Bool, true, false, _&&_, _||_, not}
 use mathlib.Core.List.{List, [], _∷_}
 use mathlib.Core.Logic.{_⊎_, inl, inr}
 use lib.Dec.{eqb, ltb}
@@ -11,7 +11,7 @@ use Rattle.std.specs.Orderings.{Decides}
 use Rattle.std.specs.shelf.Lists.{All, Has}
 use Rattle.std.proofs.shelf.Sums.{sumBy-cons}
 use Rattle.std.proofs.shelf.Elements.{all-has, all-from-getD, has-getD}
-use Rattle.std.proofs.shelf.Tests.{cases-bool, cases-lt, both-ways, not-true, not-from-false, cond-true, cond-false, eq-eqb, ne-eqb, eqb-true, or-cases, or-left, or-right}
+use Rattle.std.proofs.shelf.Tests.{cases-bool, cases-lt, not-true, not-from-false, eq-eqb, ne-eqb, eqb-true, or-cases, or-left, or-right}
 use Rattle.std.proofs.shelf.Ways.{decides-by-or, decides-below-or, decides-and, decides-eqb, decides-ltb, not-from-decides}
 use Rattle.maps.specs.Links.{Link}
 use Rattle.maps.specs.Sets.{Spaces, holds, held}

@@ -1,12 +1,12 @@
 -- Sums below n, and counts.
 use Prim.Native.Nat.{ℕ, zero, suc, _+_, _≤_, _<_}
-use mathlib.Core.Path.{_≡_, refl, sym, ap, _∙_}
-use mathlib.Core.Bool.{Bool, true, false, cond, _&&_, not}
-use mathlib.Core.List.{List, [], _∷_, _++_, map}
+use mathlib.Core.Path.{_≡_, refl, ap, _∙_}
+use mathlib.Core.Bool.{Bool, true, false, cond}
+use mathlib.Core.List.{List, [], _∷_, map}
 use mathlib.Core.Logic.{_≢_, inl, inr}
 use lib.ListN.{length}
 use native.Mathlib.Omega.{arith}
-use Rattle.std.specs.shelf.Lists.{sumBy, countBy, All}
+use Rattle.std.specs.shelf.Lists.{countBy, All}
 use Rattle.std.proofs.shelf.Sums.{sumBy-cons, sumBy-append, countBy-le-length}
 use Rattle.std.proofs.shelf.Tests.{cases-eq, cases-bool}
 use Rattle.maps.specs.Links.{Link}

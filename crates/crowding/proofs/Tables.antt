@@ -1,5 +1,5 @@
 -- The rows of a flat table of cells.
-use Prim.Native.Nat.{ℕ, zero, suc, _+_, _-_, _*_, _≤_, _<_}
+use Prim.Native.Nat.{ℕ, _+_, _-_, _*_, _≤_, _<_}
 use mathlib.Core.Path.{_≡_, refl, sym, ap, _∙_}
 use mathlib.Core.Bool.{Bool, true, false, cond, _&&_, not}
 use mathlib.Core.List.{List, [], _∷_}
@@ -9,13 +9,11 @@ use lib.ListN.{length, getD, set, take, drop}
 use lib.Seq.{take-set-lt}
 use native.Mathlib.Nat.{mul-le-mul-right}
 use native.Mathlib.Omega.{arith}
-use Rattle.std.specs.shelf.Lists.{countBy, sumBy, kept-by, Has, All}
-use Rattle.std.proofs.shelf.Lists.{drop-set-lt, drop-set-add, take-set-le, getD-take, getD-drop, length-take-le, length-drop, length-take}
+use Rattle.std.specs.shelf.Lists.{countBy, kept-by, Has}
+use Rattle.std.proofs.shelf.Lists.{drop-set-lt, drop-set-add, take-set-le, getD-take, getD-drop, length-drop, length-take}
 use Rattle.std.proofs.shelf.Sums.{sumBy-cons, sumBy-set, length-kept-by, countBy-le-length, getD-le-sumBy}
 use Rattle.std.proofs.shelf.Elements.{all-getD, all-from-getD, all-has, all-kept-by, all-has-itself, has-append-right}
 use Rattle.std.proofs.shelf.Tests.{cases-lt, cases-bool, cases-order, both-ways, eq-eqb, ne-eqb, eqb-true}
-use Rattle.crowding.specs.Orientation.{Rows}
-use Rattle.crowding.specs.Putting.{Same, Put}
 use Rattle.crowding.specs.Table.{occupied, table-rows}
 use Rattle.crowding.specs.Theorems.{Table-writes}
 use Rattle.crowding.proofs.Sums.{bit, count-all, count-full, count-no}

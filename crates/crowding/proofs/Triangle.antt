@@ -1,21 +1,19 @@
 -- The example of three spaces.
 use Prim.Native.Nat.{ℕ, _≤_, _<_}
 use mathlib.Core.Path.{_≡_, refl}
-use mathlib.Core.Bool.{true}
-use mathlib.Core.List.{List, [], _∷_}
+use mathlib.Core.List.{[], _∷_}
 use mathlib.Core.Logic.{inl, inr}
 use lib.ListN.{length, getD}
 use native.Mathlib.Omega.{arith}
 use Rattle.std.specs.shelf.Lists.{All, Has}
 use Rattle.std.proofs.shelf.Elements.{all-getD}
 use Rattle.std.proofs.shelf.Tests.{cases-eq}
-use Rattle.maps.specs.Sets.{Spaces}
-use Rattle.maps.proofs.Good.{true-T, T-true}
+use Rattle.maps.proofs.Good.{true-T}
 use Rattle.crowding.specs.Orientation.{Rows, Oriented}
 use Rattle.crowding.specs.Reach.{Reach, at-u, at-v, on}
 use Rattle.crowding.specs.Theorems.{Triangle, triangle}
 use Rattle.crowding.proofs.Crowding.{smallest-here}
-use Rattle.crowding.proofs.Uniform.{overfull-to, overfull-from}
+use Rattle.crowding.proofs.Uniform.{overfull-from}
 
 rows : Rows
 rows v = getD ((1 ∷ []) ∷ (2 ∷ []) ∷ (0 ∷ []) ∷ []) v []

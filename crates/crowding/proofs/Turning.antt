@@ -1,22 +1,16 @@
 -- One link turned on the way back.
-use Prim.Native.Nat.{ℕ, zero, suc, _+_, _*_, _≤_, _<_}
-use mathlib.Core.Path.{_≡_, refl, sym, ap, _∙_}
-use mathlib.Core.Bool.{Bool, true, false, cond}
-use mathlib.Core.List.{List, [], _∷_}
+use Prim.Native.Nat.{ℕ, _≤_, _<_}
+use mathlib.Core.Path.{_≡_, ap}
+use mathlib.Core.List.{List}
 use mathlib.Core.Logic.{inl, inr}
 use lib.Dec.{eqb}
-use lib.ListN.{length, getD, take}
-use native.Mathlib.Numerals.{add-one}
+use lib.ListN.{getD}
 use native.Mathlib.Omega.{arith}
-use Rattle.std.specs.shelf.Lists.{countBy, sumBy, Has}
-use Rattle.std.proofs.shelf.Lists.{take-all}
-use Rattle.std.proofs.shelf.Sums.{sumBy-cons, sumBy-more, getD-le-sumBy}
+use Rattle.std.specs.shelf.Lists.{countBy, Has}
+use Rattle.std.proofs.shelf.Sums.{sumBy-cons, getD-le-sumBy}
 use Rattle.std.proofs.shelf.Tests.{cases-eq, eq-eqb}
-use Rattle.maps.specs.Sets.{Spaces}
-use Rattle.crowding.specs.Capacity.{total, room}
-use Rattle.crowding.specs.Orientation.{Rows, Oriented}
+use Rattle.crowding.specs.Orientation.{Rows}
 use Rattle.crowding.specs.Putting.{Put}
-use Rattle.crowding.specs.Turning.{Turning}
 use Rattle.crowding.specs.Theorems.{Turned}
 use Rattle.crowding.proofs.Sums.{bit}
 use Rattle.crowding.proofs.Tables.{count-has}

@@ -1,17 +1,17 @@
 -- Every space with the same number of cells.
-use Prim.Native.Nat.{ℕ, zero, suc, _+_, _*_, _≤_, _<_}
+use Prim.Native.Nat.{ℕ, zero, suc, _+_, _*_, _<_}
 use mathlib.Core.Path.{_≡_, refl, sym, ap, _∙_}
 use mathlib.Core.Bool.{Bool, true, false, cond}
-use mathlib.Core.List.{List, [], _∷_}
+use mathlib.Core.List.{List, _∷_}
 use lib.ListN.{length}
 use native.Mathlib.Omega.{arith}
 use Rattle.std.specs.Iters.{counting}
 use Rattle.std.specs.Orderings.{Decides}
-use Rattle.std.specs.shelf.Lists.{countBy, All}
+use Rattle.std.specs.shelf.Lists.{countBy}
 use Rattle.std.proofs.shelf.Sums.{sumBy-cons}
 use Rattle.maps.specs.Density.{Overfull, Crowded, Smallest-overfull}
 use Rattle.maps.specs.Links.{Link}
-use Rattle.maps.specs.Sets.{Spaces, size, held}
+use Rattle.maps.specs.Sets.{Spaces, size}
 use Rattle.crowding.specs.Capacity.{total, room, Overfull-by, Smallest-by}
 use Rattle.crowding.specs.Orientation.{Rows, Oriented}
 use Rattle.crowding.specs.Reach.{Reach}

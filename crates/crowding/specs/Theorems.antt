@@ -6,11 +6,11 @@ use mathlib.Core.List.{List, [], _∷_}
 use lib.ListN.{length, getD, set}
 use Rattle.std.specs.Orderings.{Decides}
 use Rattle.std.specs.shelf.Lists.{All, countBy}
-use Rattle.maps.specs.Density.{Overfull, Crowded, Smallest-overfull}
+use Rattle.maps.specs.Density.{Crowded, Smallest-overfull}
 use Rattle.maps.specs.Links.{Link, same}
 use Rattle.maps.specs.Sets.{Spaces, size}
 use Rattle.crowding.specs.Bags.{Same-links}
-use Rattle.crowding.specs.Capacity.{room, Overfull-by, Smallest-by, Fair}
+use Rattle.crowding.specs.Capacity.{room, Smallest-by, Fair}
 use Rattle.crowding.specs.Order.{earlier}
 use Rattle.crowding.specs.Orientation.{Rows, Oriented}
 use Rattle.crowding.specs.Putting.{Put}

@@ -1,0 +1,14 @@
+pub mod Backward
+pub mod Changes
+pub mod Clearing
+pub mod Ending
+pub mod Finding
+pub mod Ghosts
+pub mod Kept
+pub mod Laid
+pub mod Lifts
+pub mod Noting
+pub mod Readings
+pub mod Records
+pub mod Table
+pub mod Visiting
