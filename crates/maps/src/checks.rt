@@ -32,8 +32,8 @@ fn check_room(
 
 // Copies a map's links, as long as their ends are two different spaces below n. How many were copied.
 fn copy_sound<M: Map>(map: &M, n: u32, links: &mut [(u16, u16)]) -> usize
-    requires { (length links.old ≡ length (meaning map.now).links) × (length links.old ≤ 32768) }
-    ensures { SoundTo n (meaning map.now).links links.new result }
+    requires { (length links.old ≡ length (M.meaning map.now).links) × (length links.old ≤ 32768) }
+    ensures { SoundTo n (M.meaning map.now).links links.new result }
 {
     for i in 0..links.len() {
         let Some((a, b)) = map.pair(i as u32) else {
@@ -49,8 +49,8 @@ fn copy_sound<M: Map>(map: &M, n: u32, links: &mut [(u16, u16)]) -> usize
 
 // Why the link at a place is refused whose ends are not two different spaces below n.
 fn end_fault<M: Map>(map: &M, n: u32, place: usize) -> ListRefusal
-    requires { (place < length (meaning map.now).links) × (place ≤ 32768) × BadEnds n (slice_index_or (meaning map.now).links place (0, 0)) }
-    ensures { RefusesAt n (meaning map.now).links place result }
+    requires { (place < length (M.meaning map.now).links) × (place ≤ 32768) × BadEnds n (slice_index_or (M.meaning map.now).links place (0, 0)) }
+    ensures { RefusesAt n (M.meaning map.now).links place result }
 {
     let place = place as u32;
     match map.pair(place) {
@@ -67,10 +67,10 @@ fn check_parts<M: Map>(
     next: &mut [(u16, u16)],
     met: &mut Marks<'_>,
 ) -> Result<(), ListRefusal>
-    requires size { (length head.old ≡ (meaning map.now).spaces) × (length links.old ≡ length (meaning map.now).links) × (length next.old ≡ length links.old) }
+    requires size { (length head.old ≡ (M.meaning map.now).spaces) × (length links.old ≡ length (M.meaning map.now).links) × (length next.old ≡ length links.old) }
     requires room { (length head.old ≤ 4096) × (length links.old ≤ 32768) }
     requires marks { (met.old.n ≡ length head.old) × (length head.old ≤ length met.old.bytes.now) × NoneMet (length head.old) met.old.bytes.now }
-    ensures read { ReadList (meaning map.now).spaces (meaning map.now).links links.new head.new next.new result }
+    ensures read { ReadList (M.meaning map.now).spaces (M.meaning map.now).links links.new head.new next.new result }
     ensures past { SamePast (length head.old) met.old.bytes.now met.new.bytes.now }
     ensures n { met.new.n ≡ met.old.n }
     ensures same { met.new.bytes.ghost_name ≡ met.old.bytes.ghost_name }
@@ -97,9 +97,9 @@ fn check_lists<M: Map>(
     next: &mut [(u16, u16)],
     marks: &mut [u8],
 ) -> Result<(), ListRefusal>
-    requires size { TooLarge (meaning map.now).spaces (length (meaning map.now).links) → ⊥ }
-    requires room { TooShort (meaning map.now).spaces (length (meaning map.now).links) (length links.old) (length head.old) (length next.old) (length marks.old) → ⊥ }
-    ensures { ReadInto (meaning map.now) (record { links = links.entry.now; head = head.old; next = next.old; marks = marks.old }) result (record { links = links.exit.now; head = head.new; next = next.new; marks = marks.new }) }
+    requires size { TooLarge (M.meaning map.now).spaces (length (M.meaning map.now).links) → ⊥ }
+    requires room { TooShort (M.meaning map.now).spaces (length (M.meaning map.now).links) (length links.old) (length head.old) (length next.old) (length marks.old) → ⊥ }
+    ensures { ReadInto (M.meaning map.now) (record { links = links.entry.now; head = head.old; next = next.old; marks = marks.old }) result (record { links = links.exit.now; head = head.new; next = next.new; marks = marks.new }) }
 {
     let n = map.spaces() as usize;
     let m = map.links() as usize;
@@ -121,7 +121,7 @@ pub fn check_links<M: Map>(
     next: &mut [(u16, u16)],
     marks: &mut [u8],
 ) -> Result<(), ListRefusal>
-    ensures { Listed (meaning map.now) (record { links = links.entry.now; head = head.old; next = next.old; marks = marks.old }) result (record { links = links.exit.now; head = head.new; next = next.new; marks = marks.new }) }
+    ensures { Listed (M.meaning map.now) (record { links = links.entry.now; head = head.old; next = next.old; marks = marks.old }) result (record { links = links.exit.now; head = head.new; next = next.new; marks = marks.new }) }
 {
     check_room(map.spaces(), map.links(), links, head, next, marks)?;
     check_lists(map, links, head, next, marks)

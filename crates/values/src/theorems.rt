@@ -12,9 +12,9 @@ use crate::kind::Kind;
 // For every kind, reading undoes writing.
 pub fn kind_stands<K: Kind>() -> u8
     ensures zero { result ≡ 0 }
-    ensures back { ReadsBack columns text }
-    ensures apart { ToldApart columns text }
-    ensures refused { RefusesUnwritten columns text }
+    ensures back { ReadsBack K.columns K.text }
+    ensures apart { ToldApart K.columns K.text }
+    ensures refused { RefusesUnwritten K.columns K.text }
 {
     0
 }
@@ -43,8 +43,8 @@ pub fn goods_stand() -> u8
 
 // A value written and read again: itself if its columns are within ±1,000,000, else nothing.
 pub fn reread<K: Kind>(value: &K) -> Option<K>
-    ensures back { Readable (columns value.now) → result ≡ Some value.now }
-    ensures beyond { (Readable (columns value.now) → ⊥) → result ≡ None }
+    ensures back { Readable (K.columns value.now) → result ≡ Some value.now }
+    ensures beyond { (Readable (K.columns value.now) → ⊥) → result ≡ None }
 {
     K::read(value.write().as_slice())
 }

@@ -8,8 +8,8 @@ returns-then-place-eq4294967295 c = drawn_none c.args.ends.now c.args.place (ome
 pub returns-then-start-ends : goal.returns-then-start-ends
 returns-then-start-ends c = drawn_past c.args.ends.now c.args.place (omega arith)
 
-pub returns-in-default : goal.returns-in-default
-returns-in-default c = drawn_past c.args.ends.now c.args.place (omega (arith, ltb-true))
+pub returns-in_default : goal.returns-in_default
+returns-in_default c = drawn_past c.args.ends.now c.args.place (omega (arith, ltb-true))
 
 pub returns-in-len2-up : goal.returns-in-len2-up
 returns-in-len2-up c = drawn_some c.args.ends.now c.args.place _ (omega arith) (omega (arith, ltb-false)) (omega (arith, ltb-false))

@@ -7,11 +7,11 @@ loop-v-init c = (below_none c.args.links.now, c.requires.marks.2, record { len =
 
 pub loop-v-preserved : goal.loop-v-preserved
 loop-v-preserved c = (
-  below_more c.min-first.ensures c.mark-neighbours-found.ensures.first c.loop-v.invariant.0,
-  c.unmark-neighbours.ensures.none,
-  past_again c.loop-v.invariant.2 (past_again c.mark-neighbours-found.ensures.past c.unmark-neighbours.ensures.past),
-  c.unmark-neighbours.ensures.n ∙ (c.mark-neighbours-found.ensures.n ∙ c.loop-v.invariant.3),
-  c.unmark-neighbours.ensures.same ∙ (c.mark-neighbours-found.ensures.same ∙ c.loop-v.invariant.4),
+  below_more c.min-first.ensures c.mark_neighbours-found.ensures.first c.loop-v.invariant.0,
+  c.unmark_neighbours.ensures.none,
+  past_again c.loop-v.invariant.2 (past_again c.mark_neighbours-found.ensures.past c.unmark_neighbours.ensures.past),
+  c.unmark_neighbours.ensures.n ∙ (c.mark_neighbours-found.ensures.n ∙ c.loop-v.invariant.3),
+  c.unmark_neighbours.ensures.same ∙ (c.mark_neighbours-found.ensures.same ∙ c.loop-v.invariant.4),
 )
 
 pub returns : goal.returns

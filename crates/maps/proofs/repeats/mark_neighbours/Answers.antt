@@ -5,10 +5,10 @@ use Rattle.maps.proofs.repeats.mark_neighbours.Goals as goal
 pub loop-p-init : goal.loop-p-init
 loop-p-init c = (marking_start _ _ c.requires.ends c.requires.chains c.requires.room.1 c.requires.marks.2, c.requires.marks.0, refl)
 
-pub returns-then-is-marked : goal.returns-then-is-marked
-returns-then-is-marked c =
+pub returns-then-is_marked : goal.returns-then-is_marked
+returns-then-is_marked c =
     record {
-      first = marking_found _ _ c.requires.ends c.requires.chains c.loop-p.invariant.0 c.loop-p-test.true c.far-end-w.ensures c.loop-p.invariant.1 _ c.is-marked.ensures c.if-is-marked.true;
+      first = marking_found _ _ c.requires.ends c.requires.chains c.loop-p.invariant.0 c.loop-p-test.true c.far_end-w.ensures c.loop-p.invariant.1 _ c.is_marked.ensures c.if-is_marked.true;
       met = marking_only _ _ c.requires.ends c.requires.chains c.loop-p.invariant.0;
       past = c.loop-p.invariant.0.past;
       n = c.loop-p.invariant.1 ∙ sym c.requires.marks.0;
@@ -17,7 +17,7 @@ returns-then-is-marked c =
 
 pub loop-p-preserved : goal.loop-p-preserved
 loop-p-preserved c = (
-  marking_step _ _ c.requires.ends c.requires.chains c.loop-p.invariant.0 c.loop-p-test.true c.far-end-w.ensures c.loop-p.invariant.1 _ c.is-marked.ensures c.if-is-marked.false (omega (arith, c.requires.marks.1, c.loop-p.invariant.0.past.len)) c.mark.ensures.bytes c.place-after-p.ensures,
+  marking_step _ _ c.requires.ends c.requires.chains c.loop-p.invariant.0 c.loop-p-test.true c.far_end-w.ensures c.loop-p.invariant.1 _ c.is_marked.ensures c.if-is_marked.false (omega (arith, c.requires.marks.1, c.loop-p.invariant.0.past.len)) c.mark.ensures.bytes c.place_after-p.ensures,
   c.mark.ensures.n ∙ c.loop-p.invariant.1,
   c.mark.ensures.same ∙ c.loop-p.invariant.2,
 )

@@ -7,7 +7,7 @@ loop-p-init c = (unmarking_start _ _ c.requires.ends c.requires.chains c.require
 
 pub loop-p-preserved : goal.loop-p-preserved
 loop-p-preserved c = (
-  unmarking_step _ _ c.requires.ends c.requires.chains c.loop-p.invariant.0 c.loop-p-test.true c.far-end.ensures c.loop-p.invariant.1 (omega (arith, c.requires.marks.1, c.loop-p.invariant.0.past.len)) c.unmark.ensures.bytes c.place-after-p.ensures,
+  unmarking_step _ _ c.requires.ends c.requires.chains c.loop-p.invariant.0 c.loop-p-test.true c.far_end.ensures c.loop-p.invariant.1 (omega (arith, c.requires.marks.1, c.loop-p.invariant.0.past.len)) c.unmark.ensures.bytes c.place_after-p.ensures,
   c.unmark.ensures.n ∙ c.loop-p.invariant.1,
   c.unmark.ensures.same ∙ c.loop-p.invariant.2,
 )

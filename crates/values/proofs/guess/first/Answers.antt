@@ -4,11 +4,11 @@ use Rattle.values.proofs.Machine.{kept_is}
 use Rattle.values.specs.Guessing.{no_first, bad_first, some_first}
 use Rattle.values.proofs.guess.first.Goals as goal
 
-pub returns-in-default : goal.returns-in-default
-returns-in-default c = no_first _ c.in-default.ensures.cases
+pub returns-in_default : goal.returns-in_default
+returns-in_default c = no_first _ c.in_default.ensures.cases
 
-pub returns-in-default-column : goal.returns-in-default-column
-returns-in-default-column c = bad_first _ c.in-Some.front c.in-Some.rest _ c.in-Some.ensures.cases c.column.ensures c.in-default-column.is
+pub returns-in_default-column : goal.returns-in_default-column
+returns-in_default-column c = bad_first _ c.in-Some.front c.in-Some.rest _ c.in-Some.ensures.cases c.column.ensures c.in_default-column.is
 
 pub returns : goal.returns
 returns c =

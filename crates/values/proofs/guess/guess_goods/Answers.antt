@@ -8,15 +8,15 @@ use Rattle.values.specs.Readings.{made_found, made_ranged}
 use Rattle.values.specs.Together.{same_columns_goods}
 use Rattle.values.proofs.guess.guess_goods.Goals as goal
 
-pub returns-in-default : goal.returns-in-default
-returns-in-default c =
-    record { found = λ v r e. absurd (c.in-default.ensures.cases.0 (subst IsUtf8 (sym e) (utf8_goods (goods_columns v) r))); ranged = tt }
+pub returns-in_default : goal.returns-in_default
+returns-in_default c =
+    record { found = λ v r e. absurd (c.in_default.ensures.cases.0 (subst IsUtf8 (sym e) (utf8_goods (goods_columns v) r))); ranged = tt }
 
-pub returns-in-default-four : goal.returns-in-default-four
-returns-in-default-four c =
+pub returns-in_default-four : goal.returns-in_default-four
+returns-in_default-four c =
     record {
       found = λ v r e.
-          absurd (none_some _ _ c.in-default-four.is
+          absurd (none_some _ _ c.in_default-four.is
           (c.four.ensures.found (v.wood.number, v.stone.number, v.ore.number, v.cloth.number) r (c.in-Ok.ensures.cases.0 ∙ e)));
       ranged = tt;
     }

@@ -2,9 +2,9 @@ use Rattle.std.proofs.Common.{◌≡◌, Some, ap, arith}
 use Rattle.values.specs.Guessing.{whole_guess, err_ok, same_ok}
 use Rattle.values.proofs.guess.whole.Goals as goal
 
-pub returns-in-default : goal.returns-in-default
-returns-in-default c =
-    whole_guess c.args.most _ _ _ (omega arith) c.parse.ensures.value.0 (λ n l e. absurd (err_ok _ n _ c.in-default.is e)) tt
+pub returns-in_default : goal.returns-in_default
+returns-in_default c =
+    whole_guess c.args.most _ _ _ (omega arith) c.parse.ensures.value.0 (λ n l e. absurd (err_ok _ n _ c.in_default.is e)) tt
 
 pub returns-then-n-most : goal.returns-then-n-most
 returns-then-n-most c =

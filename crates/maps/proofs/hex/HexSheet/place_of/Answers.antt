@@ -6,8 +6,8 @@ use Rattle.maps.proofs.hex.HexSheet.place_of.Goals as goal
 row_below : (w h s : ℕ) → 1 ≤ w → h ≤ 64 → s < w * h → s / w < 64
 row_below w h s z m l = omega (arith, div_below s w h z (omega (arith, mul_comm w h)))
 
-pub overflow-cast-result : goal.overflow-cast-result
-overflow-cast-result c = record { fits = omega (arith, row_below c.args.self.now.width c.args.self.now.height c.args.space (omega arith) (omega arith) c.requires) }
+pub overflow_cast-result : goal.overflow_cast-result
+overflow_cast-result c = record { fits = omega (arith, row_below c.args.self.now.width c.args.self.now.height c.args.space (omega arith) (omega arith) c.requires) }
 
 pub returns : goal.returns
 returns c = (

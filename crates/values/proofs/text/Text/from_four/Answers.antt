@@ -3,5 +3,5 @@ use Rattle.values.proofs.text.Text.from_four.Goals as goal
 
 pub returns : goal.returns
 returns c =
-    four_parts _ _ _ _ _ _ _ _ _ c.empty-text.ensures c.push-column.ensures.after c.push-next.ensures.after
-    c.push-next-2.ensures.after c.push-next-3.ensures.after
+    four_parts _ _ _ _ _ _ _ _ _ c.empty-text.ensures c.push_column.ensures.after c.push_next.ensures.after
+    c.push_next-2.ensures.after c.push_next-3.ensures.after

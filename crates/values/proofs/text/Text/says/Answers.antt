@@ -6,4 +6,4 @@ use Rattle.std.proofs.lemmas.Bool.Decides.{Decides-eqb}
 pub returns : goal.returns
 returns c =
     let d = slice_eq-Decides Decides-eqb _ _ _ c.eq.ensures in
-    (λ t. sym (d.0 t) ∙ c.as-slice.ensures.shows, λ e. d.1 (c.as-slice.ensures.shows ∙ sym e))
+    (λ t. sym (d.0 t) ∙ c.as_slice.ensures.shows, λ e. d.1 (c.as_slice.ensures.shows ∙ sym e))
