@@ -14,14 +14,14 @@ pub fn league_points(weight: i64) -> i64
 
 // Whether the owner has a greater weight than this.
 fn outweighs<K: Kind>(other: &OwnerTotal<K>, weight: i64) -> bool
-    ensures { result ≡ int_lt weight (weigh (columns other.now.total)) }
+    ensures { result ≡ int_lt weight (K.weigh (K.columns other.now.total)) }
 {
     other.total.weight() > weight
 }
 
 // One more than how many of the owners have a greater weight.
 pub fn place_among<K: Kind>(owners: &[OwnerTotal<K>; 7], weight: i64) -> u32
-    ensures is { result ≡ place (weights_of columns weigh owners.now) weight }
+    ensures is { result ≡ place (weights_of K.columns K.weigh owners.now) weight }
     ensures few { result ≤ 8 }
 {
     let mut place = 1;

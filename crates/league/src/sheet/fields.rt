@@ -40,7 +40,7 @@ fn put_owner<K: Kind>(
 ) -> usize
     requires room { at + 70 ≤ length print.old }
     requires few { number ≤ 7 }
-    ensures wrote { Wrote print.old at (line_of columns weigh text (weights_of columns weigh owners.now) number owner.now) result print.new }
+    ensures wrote { Wrote print.old at (line_of K.columns K.weigh K.text (weights_of K.columns K.weigh owners.now) number owner.now) result print.new }
     ensures bound { result ≤ at + 70 }
 {
     let weight = owner.total.weight();
@@ -54,7 +54,7 @@ fn put_owner<K: Kind>(
 // A line for each owner, where there is room for them.
 pub(crate) fn put_owners<K: Kind>(print: &mut [u8], at: usize, owners: &[OwnerTotal<K>; 7]) -> usize
     requires { at + 490 ≤ length print.old }
-    ensures wrote { Wrote print.old at (owners_text columns weigh text owners.now) result print.new }
+    ensures wrote { Wrote print.old at (owners_text K.columns K.weigh K.text owners.now) result print.new }
     ensures bound { result ≤ at + 490 }
 {
     let mut end = at;

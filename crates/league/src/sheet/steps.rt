@@ -36,7 +36,7 @@ impl Begun {
         print: &mut [u8],
         standing: u16,
     ) -> Result<Headed, (Begun, SheetRefusal)>
-        ensures { Step self (Goes_on self.size (length print.old)) print.old print.new (λ s. (s.size ≡ self.size) × Wrote print.old 0 (head_text capital standing) s.len print.new) result }
+        ensures { Step self (Goes_on self.size (length print.old)) print.old print.new (λ s. (s.size ≡ self.size) × Wrote print.old 0 (head_text K.capital standing) s.len print.new) result }
     {
         if !same_size(self.size, print) {
             return Err((self, SheetRefusal::WrongSize));
@@ -56,7 +56,7 @@ impl Headed {
         print: &mut [u8],
         owners: &[OwnerTotal<K>; 7],
     ) -> Result<Listed, (Headed, SheetRefusal)>
-        ensures { Step self (Goes_on self.size (length print.old)) print.old print.new (λ s. (s.size ≡ self.size) × Wrote print.old self.len (owners_text columns weigh text owners.now) s.len print.new) result }
+        ensures { Step self (Goes_on self.size (length print.old)) print.old print.new (λ s. (s.size ≡ self.size) × Wrote print.old self.len (owners_text K.columns K.weigh K.text owners.now) s.len print.new) result }
     {
         if !same_size(self.size, print) {
             return Err((self, SheetRefusal::WrongSize));
@@ -98,7 +98,7 @@ pub fn print_sheet<K: Kind>(
     standing: u16,
     owners: &[OwnerTotal<K>; 7],
 ) -> Result<usize, SheetRefusal>
-    ensures { Prints print.old (sheet_text capital columns weigh text standing owners.now) print.new result }
+    ensures { Prints print.old (sheet_text K.capital K.columns K.weigh K.text standing owners.now) print.new result }
 {
     let begun = begin(print)?;
     let headed = match begun.head::<K>(print, standing) {

@@ -3,4 +3,4 @@ use Rattle.league.proofs.Parts.{put_whole}
 use Rattle.league.proofs.writing.put.Goals as goal
 
 pub returns : goal.returns
-returns c = put_whole _ _ _ _ c.copy-from-slice.ensures.after (omega arith)
+returns c = put_whole _ _ _ _ c.copy_from_slice.ensures.after (omega arith)

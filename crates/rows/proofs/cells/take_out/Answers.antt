@@ -17,8 +17,8 @@ returns-then-i-k c =
       past = past_same (c.args.v * c.args.k + c.args.k) c.args.table.now;
     }
 
-pub close-gap-requires : goal.close-gap-requires
-close-gap-requires c =
+pub close_gap-requires : goal.close_gap-requires
+close_gap-requires c =
     let k : ℕ = c.args.k in
     let t : List ℕ = c.args.table.now in
     let v : ℕ = c.args.v in
@@ -33,7 +33,7 @@ pub returns : goal.returns
 returns c =
     let k : ℕ = c.args.k in
     let t : List ℕ = c.args.table.now in
-    let t' : List ℕ = c.close-gap.new.table in
+    let t' : List ℕ = c.close_gap.new.table in
     let v : ℕ = c.args.v in
     let i : ℕ = c.find-i.result in
     let r : ℕ = c.find-last.result in
@@ -45,9 +45,9 @@ returns c =
     let last : cell k t v (r - 1) ≡ 65535 → ⊥ = c.find-last.ensures.before (r - 1) (omega arith) in
     record {
       no = λ e. absurd (both_ways _ e refl);
-      yes = λ _ n. subst (λ (x : List ℕ). Put n v c.args.c (table_rows k x) (table_rows k t)) (sym c.close-gap.ensures) (put_out k t v i (r - 1) c.args.c li lm le c.requires.row here c.requires.space last n);
-      sound = λ n lv s. subst (λ (x : List ℕ). Sound n k x) (sym c.close-gap.ensures)
+      yes = λ _ n. subst (λ (x : List ℕ). Put n v c.args.c (table_rows k x) (table_rows k t)) (sym c.close_gap.ensures) (put_out k t v i (r - 1) c.args.c li lm le c.requires.row here c.requires.space last n);
+      sound = λ n lv s. subst (λ (x : List ℕ). Sound n k x) (sym c.close_gap.ensures)
           (sound_out k t v i (r - 1) c.args.c li lm le c.requires.row here c.requires.space last n lv
           (λ j lj lk. c.requires.first r j (omega arith) lk (c.find-last.ensures.found (omega arith))) s);
-      past = subst (λ (x : List ℕ). SameFrom (v * k + k) t x) (sym c.close-gap.ensures) (past_out k t v i (r - 1) c.args.c li lm le c.requires.row here c.requires.space last);
+      past = subst (λ (x : List ℕ). SameFrom (v * k + k) t x) (sym c.close_gap.ensures) (past_out k t v i (r - 1) c.args.c li lm le c.requires.row here c.requires.space last);
     }

@@ -9,7 +9,7 @@ use Rattle.rows.proofs.memory.set_trail.Goals as goal
 pub returns : goal.returns
 returns c =
     let rs : List SpaceRecord = c.args.records.now in
-    let e = c.found-from.ensures in
+    let e = c.found_from.ensures in
     record {
       queues = map_kept (λ r. r.queue) rs c.args.x _ (record { parent = 0; queue = 0; turn = 0 }) e.queue;
       parents = map-set (λ r. r.parent) rs c.args.x _ ∙ ap (λ (y : ℕ). set (parents rs) c.args.x y) e.parent;

@@ -16,20 +16,20 @@ pub bounds-places-b : goal.bounds-places-b
 bounds-places-b c = omega (arith, c.requires.room.2, (ends_at c.loop-i.i c.requires.good c.loop-i-test.true).1)
 
 pub enter-requires : goal.enter-requires
-enter-requires c = record { row = (turn_then c.requires.room.2 c.requires.good c.requires.ordered c.requires.room.0 c.requires.room.1 c.note-places.ensures c.loop-i-test.true c.loop-i.invariant c.if-places-a.true).asked }
+enter-requires c = record { row = (turn_then c.requires.room.2 c.requires.good c.requires.ordered c.requires.room.0 c.requires.room.1 c.note_places.ensures c.loop-i-test.true c.loop-i.invariant c.if-places-a.true).asked }
 
 pub enter-requires-else-places-a : goal.enter-requires-else-places-a
-enter-requires-else-places-a c = record { row = (turn_else c.requires.room.2 c.requires.good c.requires.ordered c.requires.room.0 c.requires.room.1 c.note-places.ensures c.loop-i-test.true c.loop-i.invariant c.if-places-a.false).asked }
+enter-requires-else-places-a c = record { row = (turn_else c.requires.room.2 c.requires.good c.requires.ordered c.requires.room.0 c.requires.room.1 c.note_places.ensures c.loop-i-test.true c.loop-i.invariant c.if-places-a.false).asked }
 
 pub loop-i-preserved : goal.loop-i-preserved
 loop-i-preserved c =
     elim c.if-places-a.branch [
       | then-places-a w ↦
           rw (w.count-is, w.table-is, w.enter.ensures.count, w.enter.ensures.table)
-          (turn_then c.requires.room.2 c.requires.good c.requires.ordered c.requires.room.0 c.requires.room.1 c.note-places.ensures c.loop-i-test.true c.loop-i.invariant w.if-places-a.true).after
+          (turn_then c.requires.room.2 c.requires.good c.requires.ordered c.requires.room.0 c.requires.room.1 c.note_places.ensures c.loop-i-test.true c.loop-i.invariant w.if-places-a.true).after
       | else-places-a w ↦
           rw (w.count-is, w.table-is, w.enter-else-places-a.ensures.count, w.enter-else-places-a.ensures.table)
-          (turn_else c.requires.room.2 c.requires.good c.requires.ordered c.requires.room.0 c.requires.room.1 c.note-places.ensures c.loop-i-test.true c.loop-i.invariant w.if-places-a.false).after
+          (turn_else c.requires.room.2 c.requires.good c.requires.ordered c.requires.room.0 c.requires.room.1 c.note_places.ensures c.loop-i-test.true c.loop-i.invariant w.if-places-a.false).after
     ]
 
 pub returns : goal.returns

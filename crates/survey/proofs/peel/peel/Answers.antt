@@ -5,7 +5,7 @@ use Rattle.survey.proofs.peel.peel.Goals as goal
 pub loop-queued-init : goal.loop-queued-init
 loop-queued-init c =
     let a : length c.args.degree.now ≡ length c.seed-queued.new.order = omega (arith, c.requires.room) in
-    peel_start a (sym c.seed-queued.auto.order) c.count-links.ensures c.seed-queued.ensures
+    peel_start a (sym c.seed-queued.auto.order) c.count_links.ensures c.seed-queued.ensures
 
 pub returns : goal.returns
 returns c =

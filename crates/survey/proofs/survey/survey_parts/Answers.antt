@@ -5,6 +5,6 @@ use Rattle.survey.proofs.survey.survey_parts.Goals as goal
 pub returns : goal.returns
 returns c = (
   c.peel-left.ensures.ordered (omega arith),
-  subst (λ (x : ℕ). Table c.args.k x c.args.links.now c.peel-left.new.order c.fill-table.new.table) c.peel-left.auto.order c.fill-table.ensures,
+  subst (λ (x : ℕ). Table c.args.k x c.args.links.now c.peel-left.new.order c.fill_table.new.table) c.peel-left.auto.order c.fill_table.ensures,
   refl,
 )

@@ -11,12 +11,12 @@ loop-owner-init g c = (λ h. absurd (omega arith), refl, omega arith, wrote_noth
 pub loop-owner-preserved : goal.loop-owner-preserved
 loop-owner-preserved g c =
     let f = line_of g.K.Kind.columns g.K.Kind.weigh g.K.Kind.text (weights_of g.K.Kind.columns g.K.Kind.weigh c.args.owners.now) in
-    let h : c.loop-owner.owner-index < length c.args.owners.now = omega (arith, c.type-inv.owners) in (
-      λ _. c.type-inv.owners,
+    let h : c.loop-owner.owner-index < length c.args.owners.now = omega (arith, c.type_inv.owners) in (
+      λ _. c.type_inv.owners,
       omega (arith, c.loop-owner.invariant.1),
-      omega (arith, c.loop-owner.invariant.2, c.put-owner-end.ensures.bound),
+      omega (arith, c.loop-owner.invariant.2, c.put_owner-end.ensures.bound),
       wrote_as _ _ _ _ _ _ (numbered_more f 1 c.loop-owner.number c.args.owners.now c.loop-owner.owner-index c.owner-item.result h (omega (arith, c.loop-owner.invariant.1)))
-          (wrote_then _ _ _ _ _ _ _ _ c.loop-owner.invariant.3 c.put-owner-end.ensures.wrote),
+          (wrote_then _ _ _ _ _ _ _ _ c.loop-owner.invariant.3 c.put_owner-end.ensures.wrote),
     )
 
 pub returns : goal.returns

@@ -2,8 +2,8 @@ use Rattle.std.proofs.Common.{arith, rules}
 use Rattle.rows.proofs.Ghosts.{ready_by}
 use Rattle.rows.proofs.link_rows.LinkRows.lay_guarded.Goals as goal
 
-pub lay-guarded-requires : goal.lay-guarded-requires
-lay-guarded-requires c =
+pub lay_guarded-requires : goal.lay_guarded-requires
+lay_guarded-requires c =
     let b = c.args.self.now in
     record {
       ready = ready_by b.memory b.sizes b.names b.front;

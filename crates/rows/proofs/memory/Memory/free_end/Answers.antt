@@ -2,8 +2,8 @@ use Rattle.std.proofs.Common.{length, arith}
 use Rattle.rows.proofs.Table.{row_in}
 use Rattle.rows.proofs.memory.Memory.free_end.Goals as goal
 
-pub has-room-requires : goal.has-room-requires
-has-room-requires c =
+pub has_room-requires : goal.has_room-requires
+has_room-requires c =
     let m = c.args.self.now in
     let s = c.requires.ready.sound in
     record {
@@ -11,8 +11,8 @@ has-room-requires c =
       small = (s.small.1, omega (arith, s.small.0, c.requires.inside.0));
     }
 
-pub has-room-requires-2 : goal.has-room-requires-2
-has-room-requires-2 c =
+pub has_room-requires-2 : goal.has_room-requires-2
+has_room-requires-2 c =
     let m = c.args.self.now in
     let s = c.requires.ready.sound in
     record {

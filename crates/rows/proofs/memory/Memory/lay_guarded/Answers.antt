@@ -5,8 +5,8 @@ use Rattle.rows.proofs.Laid.{laid_end, laid_at, ends_in}
 use Rattle.rows.proofs.Table.{row_in}
 use Rattle.rows.proofs.memory.Memory.lay_guarded.Goals as goal
 
-pub put-in-requires : goal.put-in-requires
-put-in-requires c =
+pub put_in-requires : goal.put_in-requires
+put_in-requires c =
     let m = c.args.self.now in
     let s = c.requires.ready.sound in
     let f = c.in-Some.ensures in
@@ -24,22 +24,22 @@ returns c =
     let s = c.requires.ready.sound in
     let f = c.in-Some.ensures in
     let t : List ℕ = m.table.now in
-    let t' : List ℕ = c.put-in.new.table in
+    let t' : List ℕ = c.put_in.new.table in
     let inside = ends_in m.n c.args.a c.args.b c.in-Some.end c.in-Some.other c.requires.inside.0 c.requires.inside.1 f.0 in
     record {
       shape = record {
         n = refl;
         k = refl;
         records = past_same m.n m.records.now;
-        sound = c.put-in.ensures.sound m.n inside.0 inside.1 s;
-        past = past_weaker (c.in-Some.end * m.k + m.k) (m.n * m.k) t t' (row_before m.n m.k c.in-Some.end inside.0) c.put-in.ensures.past;
+        sound = c.put_in.ensures.sound m.n inside.0 inside.1 s;
+        past = past_weaker (c.in-Some.end * m.k + m.k) (m.n * m.k) t t' (row_before m.n m.k c.in-Some.end inside.0) c.put_in.ensures.past;
       };
       marks = search rules;
       n = search rules;
       same = search rules;
       answer = (
         laid_at m _ c.args.a c.args.b m.n m.k t t' refl refl refl refl refl refl
-            (laid_end m.n m.k t t t' c.args.a c.args.b c.in-Some.end c.in-Some.other c.requires.inside.0 c.requires.inside.1 f.0 (λ _ o. o) f.1 (c.put-in.ensures.put m.n)),
+            (laid_end m.n m.k t t t' c.args.a c.args.b c.in-Some.end c.in-Some.other c.requires.inside.0 c.requires.inside.1 f.0 (λ _ o. o) f.1 (c.put_in.ensures.put m.n)),
         refl,
       );
     }

@@ -12,8 +12,8 @@ use Rattle.rows.proofs.Lifts.{lift_by}
 use Rattle.rows.proofs.Table.{row_in}
 use Rattle.rows.proofs.memory.Memory.lift.Goals as goal
 
-pub take-out-requires : goal.take-out-requires
-take-out-requires c =
+pub take_out-requires : goal.take_out-requires
+take_out-requires c =
     let m = c.args.self.now in
     let s : Sound m.n m.k m.table.now = c.requires.ready.sound in
     record {
@@ -23,15 +23,15 @@ take-out-requires c =
       space = omega (arith, s.small.0, c.requires.inside.1);
     }
 
-pub returns-then-take-out : goal.returns-then-take-out
-returns-then-take-out c =
+pub returns-then-take_out : goal.returns-then-take_out
+returns-then-take_out c =
     let m = c.args.self.now in
     let a : ℕ = c.args.a in
     let b : ℕ = c.args.b in
     let t : List ℕ = m.table.now in
-    let t' : List ℕ = c.take-out.new.table in
-    let e = c.take-out.ensures in
-    let out = e.yes c.if-take-out.true m.n in (
+    let t' : List ℕ = c.take_out.new.table in
+    let e = c.take_out.ensures in
+    let out = e.yes c.if-take_out.true m.n in (
       record { kept = λ links o. sym (kept_first (λ _. m.k) m.n (table_rows m.k t) links a b o c.requires.inside.0 (put_here m.n a b (table_rows m.k t') (table_rows m.k t) out)) },
       record { keeps = λ links o. lifted (λ _. m.k) m.n (table_rows m.k t') (table_rows m.k t) links a b o c.requires.inside.0 out },
       record {
@@ -44,11 +44,11 @@ returns-then-take-out c =
       refl,
     )
 
-pub take-out-requires-2 : goal.take-out-requires-2
-take-out-requires-2 c =
+pub take_out-requires-2 : goal.take_out-requires-2
+take_out-requires-2 c =
     let m = c.args.self.now in
-    let t' : List ℕ = c.take-out.new.table in
-    let s : Sound m.n m.k t' = c.take-out.ensures.sound m.n c.requires.inside.0 c.requires.ready.sound in
+    let t' : List ℕ = c.take_out.new.table in
+    let s : Sound m.n m.k t' = c.take_out.ensures.sound m.n c.requires.inside.0 c.requires.ready.sound in
     record {
       row = row_in m.n m.k (length t') c.args.b s.long c.requires.inside.1;
       small = (s.small.1, omega (arith, s.small.0, c.requires.inside.1));
@@ -62,12 +62,12 @@ returns c =
     let a : ℕ = c.args.a in
     let b : ℕ = c.args.b in
     let t : List ℕ = m.table.now in
-    let t' : List ℕ = c.take-out.new.table in
-    let t'' : List ℕ = c.take-out-2.new.table in
-    let s : Sound m.n m.k t' = c.take-out.ensures.sound m.n c.requires.inside.0 c.requires.ready.sound in
-    let e = c.take-out-2.ensures in
-    let first = c.take-out.ensures.no c.if-take-out.false in
-    lift_by m _ a b c.take-out-2.result
+    let t' : List ℕ = c.take_out.new.table in
+    let t'' : List ℕ = c.take_out-2.new.table in
+    let s : Sound m.n m.k t' = c.take_out.ensures.sound m.n c.requires.inside.0 c.requires.ready.sound in
+    let e = c.take_out-2.ensures in
+    let first = c.take_out.ensures.no c.if-take_out.false in
+    lift_by m _ a b c.take_out-2.result
     (λ q. (
       record {
         kept = λ links o. sym (kept_second (λ _. m.k) m.n (table_rows m.k t) links a b o c.requires.inside.1
@@ -85,7 +85,7 @@ returns c =
         records = past_same m.n m.records.now;
         sound = e.sound m.n c.requires.inside.1 s;
         past = past_trans (m.n * m.k) t t' t''
-            (past_weaker (a * m.k + m.k) (m.n * m.k) t t' (row_before m.n m.k a c.requires.inside.0) c.take-out.ensures.past)
+            (past_weaker (a * m.k + m.k) (m.n * m.k) t t' (row_before m.n m.k a c.requires.inside.0) c.take_out.ensures.past)
             (past_weaker (b * m.k + m.k) (m.n * m.k) t' t'' (row_before m.n m.k b c.requires.inside.1) e.past);
       },
       refl,

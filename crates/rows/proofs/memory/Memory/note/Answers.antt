@@ -6,20 +6,20 @@ use Rattle.rows.proofs.Changes.{past_trans}
 use Rattle.rows.proofs.Noting.{tail_in, noted_here, noted_search, noted_grown, noted_past, marked_so}
 use Rattle.rows.proofs.memory.Memory.note.Goals as goal
 
-pub set-queue-requires : goal.set-queue-requires
-set-queue-requires c =
+pub set_queue-requires : goal.set_queue-requires
+set_queue-requires c =
     let m = c.args.self.now in
     let l : c.args.tail < m.n = tail_in m.n (rows_of m) c.args.marks.now.bytes.now (queues m.records.now) (parents m.records.now) (turns m.records.now) c.args.tail c.args.x c.requires.searching c.requires.inside c.requires.marked.1 c.requires.fresh in
     omega (arith, c.requires.ready.room)
 
-pub set-trail-requires : goal.set-trail-requires
-set-trail-requires c =
+pub set_trail-requires : goal.set_trail-requires
+set_trail-requires c =
     let m = c.args.self.now in
     let l : c.args.tail < m.n = tail_in m.n (rows_of m) c.args.marks.now.bytes.now (queues m.records.now) (parents m.records.now) (turns m.records.now) c.args.tail c.args.x c.requires.searching c.requires.inside c.requires.marked.1 c.requires.fresh in
-    omega (arith, c.requires.ready.room, c.requires.inside, (c.set-queue.ensures.past m.n l).len)
+    omega (arith, c.requires.ready.room, c.requires.inside, (c.set_queue.ensures.past m.n l).len)
 
-pub overflow-cast-tail : goal.overflow-cast-tail
-overflow-cast-tail c =
+pub overflow_cast-tail : goal.overflow_cast-tail
+overflow_cast-tail c =
     let m = c.args.self.now in
     let l : c.args.tail < m.n = tail_in m.n (rows_of m) c.args.marks.now.bytes.now (queues m.records.now) (parents m.records.now) (turns m.records.now) c.args.tail c.args.x c.requires.searching c.requires.inside c.requires.marked.1 c.requires.fresh in
     omega (arith, c.requires.ready.sound.small.0)
@@ -28,14 +28,14 @@ pub returns : goal.returns
 returns c =
     let m = c.args.self.now in
     let rs : List SpaceRecord = m.records.now in
-    let rs' : List SpaceRecord = c.set-trail.new.records in
+    let rs' : List SpaceRecord = c.set_trail.new.records in
     let a : List ℕ = c.args.marks.now.bytes.now in
     let b : List ℕ = c.mark.new.self.bytes.now in
     let em : b ≡ set a c.args.x 1 = marked_so m.n c.args.marks.now.n c.args.x a b c.requires.marked.0 c.requires.inside c.mark.ensures.bytes in
     let l : c.args.tail < m.n = tail_in m.n (rows_of m) a (queues rs) (parents rs) (turns rs) c.args.tail c.args.x c.requires.searching c.requires.inside c.requires.marked.1 c.requires.fresh in
-    let eq : queues rs' ≡ set (queues rs) c.args.tail c.args.x = c.set-trail.ensures.queues ∙ c.set-queue.ensures.queues in
-    let epr : parents rs' ≡ set (parents rs) c.args.x c.args.parent = c.set-trail.ensures.parents ∙ ap (λ (l : List ℕ). set l c.args.x c.args.parent) c.set-queue.ensures.parents in
-    let etn : turns rs' ≡ set (turns rs) c.args.x c.args.tail = c.set-trail.ensures.turns ∙ ap (λ (l : List ℕ). set l c.args.x c.args.tail) c.set-queue.ensures.turns in
+    let eq : queues rs' ≡ set (queues rs) c.args.tail c.args.x = c.set_trail.ensures.queues ∙ c.set_queue.ensures.queues in
+    let epr : parents rs' ≡ set (parents rs) c.args.x c.args.parent = c.set_trail.ensures.parents ∙ ap (λ (l : List ℕ). set l c.args.x c.args.parent) c.set_queue.ensures.parents in
+    let etn : turns rs' ≡ set (turns rs) c.args.x c.args.tail = c.set_trail.ensures.turns ∙ ap (λ (l : List ℕ). set l c.args.x c.args.tail) c.set_queue.ensures.turns in
     let q_long : m.n ≤ length (queues rs) = omega (arith, length-map rs (λ r. r.queue), c.requires.ready.room) in
     let pr_long : m.n ≤ length (parents rs) = omega (arith, length-map rs (λ r. r.parent), c.requires.ready.room) in
     let tn_long : m.n ≤ length (turns rs) = omega (arith, length-map rs (λ r. r.turn), c.requires.ready.room) in
@@ -44,7 +44,7 @@ returns c =
         n = refl;
         k = refl;
         table = refl;
-        records = past_trans m.n rs c.set-queue.new.records rs' (c.set-queue.ensures.past m.n l) (c.set-trail.ensures.past m.n c.requires.inside);
+        records = past_trans m.n rs c.set_queue.new.records rs' (c.set_queue.ensures.past m.n l) (c.set_trail.ensures.past m.n c.requires.inside);
         bytes = noted_past m.n (rows_of m) a (queues rs) (parents rs) (turns rs) c.args.tail c.args.x c.requires.searching c.requires.inside c.requires.marked.1 c.requires.fresh b em;
       };
       searching = noted_search m.n (rows_of m) a (queues rs) (parents rs) (turns rs) c.args.tail c.args.x c.requires.searching c.requires.inside c.requires.marked.1 c.requires.fresh b em

@@ -5,7 +5,7 @@ pub returns : goal.returns
 returns c =
     let m = c.args.self.now in
     record {
-      rule = c.read-link.ensures.answer;
-      kept = read_tells m c.args.a c.args.b _ _ c.requires.ready c.requires.inside.0 c.requires.inside.1 c.read-link.ensures.answer;
-      few = c.read-link.ensures.few;
+      rule = c.read_link.ensures.answer;
+      kept = read_tells m c.args.a c.args.b _ _ c.requires.ready c.requires.inside.0 c.requires.inside.1 c.read_link.ensures.answer;
+      few = c.read_link.ensures.few;
     }

@@ -2,13 +2,13 @@ use Rattle.std.proofs.Common.{◌≡◌, ℕ, List, ◌∙◌, arith}
 use Rattle.rows.proofs.Visiting.{kept_trans, ready_kept, marked_kept, went_on_trans, spread_more, found_free, tail_small, tail_room, head_here, head_found, head_space}
 use Rattle.rows.proofs.memory.Memory.spread.Goals as goal
 
-pub next-found-requires : goal.next-found-requires
-next-found-requires c =
+pub next_found-requires : goal.next_found-requires
+next_found-requires c =
     let i = c.loop-v.invariant in
     tail_room c.args.self.now c.loop-v.self c.args.marks.now.bytes.now c.loop-v.marks.bytes.now i.0 c.requires.ready c.loop-v.tail i.1
 
-pub visit-row-requires : goal.visit-row-requires
-visit-row-requires c =
+pub visit_row-requires : goal.visit_row-requires
+visit_row-requires c =
     let i = c.loop-v.invariant in
     let h = c.in-Some.ensures in
     let m₀ = c.args.self.now in
@@ -29,10 +29,10 @@ returns-in-None c =
     let e = c.in-None.ensures in
     let m₀ = c.args.self.now in
     let m = c.loop-v.self in
-    let m' = c.visit-row.new.self in
+    let m' = c.visit_row.new.self in
     let a₀ : List ℕ = c.args.marks.now.bytes.now in
     let a : List ℕ = c.loop-v.marks.bytes.now in
-    let b : List ℕ = c.visit-row.new.marks.bytes.now in
+    let b : List ℕ = c.visit_row.new.marks.bytes.now in
     record {
       kept = kept_trans m₀ m m' a₀ a b i.0 e.kept;
       ended = record {
@@ -55,14 +55,14 @@ pub loop-v-preserved : goal.loop-v-preserved
 loop-v-preserved c =
     let i = c.loop-v.invariant in
     let h = c.in-Some.ensures in
-    let e = c.in-Some-visit-row.ensures in
+    let e = c.in-Some-visit_row.ensures in
     let m₀ = c.args.self.now in
     let m = c.loop-v.self in
-    let m' = c.visit-row.new.self in
+    let m' = c.visit_row.new.self in
     let a₀ : List ℕ = c.args.marks.now.bytes.now in
     let a : List ℕ = c.loop-v.marks.bytes.now in
-    let b : List ℕ = c.visit-row.new.marks.bytes.now in
-    let same : c.in-Some-visit-row.found ≡ e.visited.found = e.visited.answer.0 in
+    let b : List ℕ = c.visit_row.new.marks.bytes.now in
+    let same : c.in-Some-visit_row.found ≡ e.visited.found = e.visited.answer.0 in
     rw same (
       kept_trans m₀ m m' a₀ a b i.0 e.kept,
       e.visited.searching,
@@ -85,7 +85,7 @@ returns c =
         tail = c.loop-v.tail;
         searching = i.1;
         grown = i.2;
-        answer = λ x l. i.3 x (omega (arith, c.in-default.ensures));
+        answer = λ x l. i.3 x (omega (arith, c.in_default.ensures));
       };
       n = i.5;
       same = i.6;

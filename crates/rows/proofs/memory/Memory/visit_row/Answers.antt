@@ -4,7 +4,7 @@ use Rattle.rows.specs.View.{rows_of, queue_of, parent_of, turn_of}
 use Rattle.rows.proofs.Finding.{tail_le}
 use Rattle.rows.proofs.Visiting.{kept_trans, ready_kept, marked_kept, went_on_trans, cell_at, cell_free, cell_seen, cell_in, cell_why, cell_then, read_on}
 use Rattle.rows.proofs.memory.Memory.visit_row.Goals as goal
-use Rattle.rows.proofs.memory.Memory.visit_row.Goals.{then-not-is-marked, else-not-is-marked}
+use Rattle.rows.proofs.memory.Memory.visit_row.Goals.{then-not-is_marked, else-not-is_marked}
 
 pub bounds-self-from : goal.bounds-self-from
 bounds-self-from c =
@@ -39,12 +39,12 @@ note-requires c =
       marked = marked;
       searching = i.1;
       inside = cell_in m m' a b i.0 c.requires.ready c.args.v c.loop-j.j c.loop-j-test.true c.requires.found c.if-c.false;
-      fresh = cell_seen m m' a b i.0 c.requires.ready c.args.v c.loop-j.j c.loop-j-test.true c.requires.found c.loop-j.marks.n c.is-marked.result marked.0 c.is-marked.ensures ∙ c.if-not-is-marked.true;
+      fresh = cell_seen m m' a b i.0 c.requires.ready c.args.v c.loop-j.j c.loop-j-test.true c.requires.found c.loop-j.marks.n c.is_marked.result marked.0 c.is_marked.ensures ∙ c.if-not-is_marked.true;
       why = inr (cell_why m m' a b i.0 c.requires.ready c.args.v c.loop-j.j c.loop-j-test.true c.requires.found c.if-c.false c.args.tail c.loop-j.tail i.2);
     }
 
-pub overflow-add-tail : goal.overflow-add-tail
-overflow-add-tail c =
+pub overflow_add-tail : goal.overflow_add-tail
+overflow_add-tail c =
     let m = c.note.new.self in
     omega (arith, tail_le m.n (rows_of m) (among m.n c.note.new.marks.bytes.now) (queue_of m) (parent_of m) (turn_of m) _ c.note.ensures.searching, c.note.ensures.kept.n, c.loop-j.invariant.0.n, c.requires.ready.sound.small.0)
 
@@ -56,8 +56,8 @@ loop-j-preserved c =
     let a : List ℕ = c.args.marks.now.bytes.now in
     let b : List ℕ = c.loop-j.marks.bytes.now in
     let marked = marked_kept m m' a b c.args.marks.now.n c.loop-j.marks.n i.0 c.requires.marked i.4 in
-    elim c.if-not-is-marked.branch [
-      | then-not-is-marked w ↦
+    elim c.if-not-is_marked.branch [
+      | then-not-is_marked w ↦
           let e = w.note.ensures in
           let x : List ℕ = w.note.new.marks.bytes.now in
           rw (w.self-is, w.marks-is, w.tail-is) (
@@ -69,14 +69,14 @@ loop-j-preserved c =
             e.n ∙ i.4,
             e.same ∙ i.5,
           )
-      | else-not-is-marked w ↦
+      | else-not-is_marked w ↦
           rw (w.self-is, w.marks-is, w.tail-is) (
             i.0,
             i.1,
             i.2,
             below_more _ _ i.3
                 (cell_then m m' a b i.0 c.requires.ready c.args.v c.loop-j.j c.loop-j-test.true c.requires.found c.if-c.false b
-                (cell_seen m m' a b i.0 c.requires.ready c.args.v c.loop-j.j c.loop-j-test.true c.requires.found c.loop-j.marks.n c.is-marked.result marked.0 c.is-marked.ensures ∙ w.if-not-is-marked.false)),
+                (cell_seen m m' a b i.0 c.requires.ready c.args.v c.loop-j.j c.loop-j-test.true c.requires.found c.loop-j.marks.n c.is_marked.result marked.0 c.is_marked.ensures ∙ w.if-not-is_marked.false)),
             i.4,
             i.5,
           )
