@@ -1,5 +1,5 @@
 -- What a run of calls has done, told by the calls and their replies alone. Assumes nothing.
-use Rattle.std.specs.Prelude.{◌≡◌, ℕ, Bool, true, false, T, List, [], ◌∷◌, ◌++◌, fold, ◌==◌}
+use Rattle.std.specs.Prelude.{◌≡◌, ℕ, Bool, false, T, List, [], ◌∷◌, ◌++◌, fold, ◌==◌}
 use Rattle.std.specs.List.{ContainsAt as Has, AllByRecursion as All}
 use Rattle.maps.specs.Links.{Link, Meaning, same}
 use Rattle.book.specs.Book.{Entry, On, Apart, printed_entry}

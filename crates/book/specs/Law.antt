@@ -1,5 +1,5 @@
 -- The law over every run of calls on a new board. Assumes nothing.
-use Rattle.std.specs.Prelude.{◌≡◌, ℕ, ◌+◌, ◌*◌, ◌<◌, ◌≤◌, min, Bool, T, ◌⊎◌, List, [], ◌∷◌, ◌++◌, length, take, Some, None, count_by}
+use Rattle.std.specs.Prelude.{◌≡◌, ℕ, ◌+◌, ◌*◌, ◌<◌, ◌≤◌, min, Bool, T, ◌⊎◌, List, ◌∷◌, ◌++◌, length, take, Some, None, count_by}
 use Rattle.maps.specs.Density.{Crowded, SmallestOverfull}
 use Rattle.maps.specs.LinkChecks.{AllLinksGood}
 use Rattle.maps.specs.Links.{Link, Meaning, same}
@@ -7,8 +7,8 @@ use Rattle.maps.specs.Sets.{Spaces, bytes}
 use Rattle.book.specs.Answers.{Leads}
 use Rattle.book.specs.Book.{Entry, Book, new_book, links_of, stands_in, of_owner, total_of}
 use Rattle.book.specs.Calls.{Columns, Memory, Lent, Call, Reply}
-use Rattle.book.specs.Calls.Call.{set_up, opening, closing, look_up, total, counts}
-use Rattle.book.specs.Calls.Reply.{refused, done, closed_for, linked, sum, counted}
+use Rattle.book.specs.Calls.Call.{set_up, opening, look_up, total, counts}
+use Rattle.book.specs.Calls.Reply.{refused, done, linked, sum, counted}
 use Rattle.book.specs.Events.{Event, events, Stands, Standing, size_after, opened_for, closed_for_owner}
 use Rattle.book.specs.Rows.{set_up_row, lent_row, open_row, Passed}
 

@@ -1,4 +1,6 @@
 // The plain book of a board, as theory: what is proved of every run that it leads. No call.
+#![tactic(auto)]
+
 ghost use Rattle.book.specs.Theorems.{BookIsLawful};
 
 // Replies of a plain book obey the law over runs.

@@ -1,5 +1,5 @@
 -- What is proved of links kept as an orientation. Assumes nothing.
-use Rattle.std.specs.Prelude.{◌≡◌, ℕ, ◌+◌, ◌*◌, ◌<◌, ◌≤◌, true, List, [], ◌∷◌, length, set, Decides, count_by, ◌≢◌, slice_index, slice_set}
+use Rattle.std.specs.Prelude.{◌≡◌, ℕ, ◌+◌, ◌*◌, ◌<◌, ◌≤◌, true, List, [], ◌∷◌, length, Decides, count_by, ◌≢◌, slice_index, slice_set}
 use Rattle.std.specs.List.{AllByRecursion as All}
 use Rattle.maps.specs.Density.{Crowded, SmallestOverfull}
 use Rattle.maps.specs.Links.{Link, same}

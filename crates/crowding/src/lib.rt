@@ -1,4 +1,6 @@
 // The theory of links kept in rows. Each function's contract is one theorem, and the check demands its proof.
+#![tactic(auto)]
+
 ghost use Rattle.crowding.specs.Theorems.{CanLay, Crowding, Flipped, KeptIfFair, Laid, Lifted, OneCapacity, OrderedFair, SameByPairs, TableWrites, Triangle, Turned};
 
 // Links can be kept in rows exactly where no set holds more of them than it has cells.

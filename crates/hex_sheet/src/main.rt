@@ -1,4 +1,6 @@
 // Prints a hex sheet as an artist checks it against the drawing: its size, each link and each centre.
+#![tactic(auto)]
+
 use anyhow::anyhow;
 use maps::hex::HexSheet;
 use maps::source::Map;

@@ -1,10 +1,10 @@
 -- Halves rounded as machine words are. Assumes nothing.
-use Rattle.std.proofs.Common.{◌≡◌, ◌+◌, ◌≤◌, length, ℤ, pos, negsuc, ◌+ℤ◌, nat_abs, ap, ◌∙◌, arith, w64, SFits, to_z, of_z}
+use Rattle.std.proofs.Common.{◌≡◌, ◌≤◌, length, ℤ, pos, negsuc, ◌+ℤ◌, nat_abs, ap, ◌∙◌, arith, w64, SFits, to_z, of_z}
 use lib.Signed.{quot_z, rem_z, mag}
 use Rattle.std.specs.Fmt.{signed_decimal}
 use Rattle.std.proofs.lemmas.Fmt.{length_signed_le}
 use Rattle.std.proofs.lemmas.Int.{ints, to_z-of_z}
-use Rattle.league.specs.Scores.{league_points_of, rounded}
+use Rattle.league.specs.Scores.{league_points_of}
 
 -- a number, as a machine word has it
 abbrev kept : ℤ → ℤ

@@ -1,3 +1,5 @@
+#![tactic(auto)]
+
 pub mod owner;
 pub mod refusal;
 pub mod score;

@@ -1,4 +1,6 @@
 // Prints whole sheets, and what the steps answer where the bytes are too few or not as many as before.
+#![tactic(auto)]
+
 use league::owner::OwnerTotal;
 use league::score::league_points;
 use league::sheet::steps::{begin, print_sheet};

@@ -1,5 +1,5 @@
 -- The exact values of the floats at the first 64 numbers, by one test that antt computes.
-use Rattle.std.proofs.Common.{◌≡◌, ℕ, zero, suc, ◌+◌, ◌*◌, ◌<◌, Bool, true, false, T, eqb, ℤ, pos, sym, refl, subst, ⊎_elim, le_of_suc-le-suc, not-suc-le-zero, eq-or-lt_of_le, eqb→eq}
+use Rattle.std.proofs.Common.{ℕ, zero, suc, ◌+◌, ◌*◌, ◌<◌, Bool, true, false, T, eqb, pos, sym, refl, subst, ⊎_elim, le_of_suc-le-suc, not-suc-le-zero, eq-or-lt_of_le, eqb→eq}
 use lib.Ieee.{Float, nan, inf, fin, binary32, up, down, of_int, of_bits, add, mul}
 use lib.Ieee.Exact.{HasValue}
 

@@ -1,8 +1,8 @@
 -- The pair at a place of a hex sheet's links.
-use Rattle.std.proofs.Common.{◌≡◌, ℕ, zero, suc, ◌+◌, ◌-◌, ◌*◌, ◌/◌, ◌%◌, ◌<◌, ◌≤◌, true, false, cond, eqb, ltb, List, [], ◌∷◌, ◌++◌, map, length, get_or, Some, None, sym, refl, ap, ◌∙◌, mul-le-mul_right, mul-zero, arith, length-append, le-ltb, lt-ltb, eq-eqb, ne_eqb}
+use Rattle.std.proofs.Common.{◌≡◌, ℕ, zero, suc, ◌+◌, ◌-◌, ◌*◌, ◌/◌, ◌%◌, ◌<◌, ◌≤◌, true, false, eqb, length, get_or, Some, None, ap, ◌∙◌, mul-le-mul_right, mul-zero, arith, eq-eqb, ne_eqb}
 use Rattle.std.proofs.lemmas.List.{get_or_append_left, get_or-append_right}
-use Rattle.std.proofs.lemmas.Nat.{div-add-mod', div_below, mod_below, le-div, mul-add-lt}
-use Rattle.maps.specs.Links.{Link, pair_at}
+use Rattle.std.proofs.lemmas.Nat.{div-add-mod', div_below, mod_below, mul-add-lt}
+use Rattle.maps.specs.Links.{pair_at}
 use Rattle.maps.specs.HexLinks.{space_at, beside, across, hex_links}
 use Rattle.maps.specs.Ranges.{blocks, length_blocks, length_hex}
 use Rattle.maps.proofs.Blocks.{at_blocks}

@@ -1,6 +1,6 @@
 -- The check of a list of links: what its parts found, put together.
-use Rattle.std.proofs.Common.{◌≡◌, ℕ, ◌+◌, ◌-◌, ◌<◌, ◌≤◌, Bool, true, false, ◌⊎◌, List, [], ◌++◌, length, get_or, take, drop, Some, Ok, Err, Result, sym, refl, ap, ◌∙◌, subst, inl, inr, append-nil, arith}
-use Rattle.std.proofs.lemmas.List.{take_all, take_at, drop_all, take-take, get_or-take, length-take, ext_get_or}
+use Rattle.std.proofs.Common.{◌≡◌, ℕ, ◌-◌, ◌<◌, ◌≤◌, List, [], ◌++◌, length, get_or, take, drop, Ok, Err, Result, sym, refl, ap, ◌∙◌, subst, inl, inr, append-nil, arith}
+use Rattle.std.proofs.lemmas.List.{take_all, take_at, take-take, get_or-take, length-take, ext_get_or}
 use Rattle.std.proofs.lemmas.Slice.{drop-append-drop}
 use Rattle.std.proofs.lemmas.Bool.{cases_lt}
 use Rattle.std.proofs.ByRecursion.{All-from_get_or}
@@ -8,7 +8,7 @@ use Rattle.maps.specs.declared.refusals.ListRefusal.{ListRefusal}
 use Rattle.maps.specs.declared.refusals.ListRefusal.TheVariants.{RepeatedLink}
 use Rattle.maps.specs.Links.{Link, Meaning, some_same}
 use Rattle.maps.specs.Marks.{Cleared}
-use Rattle.maps.specs.LinkChecks.{at_place, Passes, EndsGood, FirstBadLink, AllLinksGood}
+use Rattle.maps.specs.LinkChecks.{at_place, Passes, EndsGood}
 use Rattle.maps.specs.Chains.{Chains}
 use Rattle.maps.specs.Repeats.{FirstRepeat, SamePast}
 use Rattle.maps.specs.Refusals.{list_number}

@@ -1,5 +1,5 @@
 -- The search for a repeated link: the walks along the chain of one space.
-use Rattle.std.proofs.Common.{◌≡◌, ℕ, zero, suc, ◌+◌, ◌-◌, ◌<◌, ◌≤◌, min, Bool, true, false, cond, not, ◌&&◌, ◌||◌, eqb, ltb, ◌⊎◌, List, [], ◌∷◌, ◌++◌, length, get_or, take, drop, set, sym, refl, ap, ◌∙◌, subst, inl, inr, arith}
+use Rattle.std.proofs.Common.{◌≡◌, ℕ, zero, suc, ◌+◌, ◌-◌, ◌<◌, ◌≤◌, min, Bool, true, false, cond, not, ◌&&◌, ◌||◌, eqb, ltb, List, [], ◌∷◌, ◌++◌, length, get_or, take, drop, set, sym, refl, ap, ◌∙◌, subst, inl, inr, arith}
 use Rattle.std.proofs.lemmas.List.{take_more, drop_more, drop_all, length-set, get_or-set_same, get_or-set_other}
 use Rattle.std.proofs.lemmas.Bool.{cases_eq, cases_Bool, cases_lt, eq-eqb, ne_eqb, lt-ltb, or_left, both_ways}
 use Rattle.std.proofs.lemmas.Bool.Decides.{nat_tests}
@@ -8,7 +8,7 @@ use Rattle.maps.specs.LinkChecks.{EndsGood}
 use Rattle.maps.specs.Chains.{touches, other, Next, Chains}
 use Rattle.maps.specs.Marks.{marked}
 use Rattle.maps.specs.Repeats.{SamePast, OnlyMet, NoneMet, FirstRepeatOf, FirstRepeat}
-use Rattle.maps.proofs.Walks.{Met, FirstRepeatBelow, Marking, Unmarking}
+use Rattle.maps.proofs.Walks.{FirstRepeatBelow, Marking, Unmarking}
 use Rattle.maps.proofs.Chaining.{ends_at, after_of}
 
 -- a link that touches v joins it to its other end

@@ -1,4 +1,6 @@
 // Maps: spaces and links, their sources, and what every layer asks of them.
+#![tactic(auto)]
+
 pub mod centre;
 pub mod chains;
 pub mod checks;

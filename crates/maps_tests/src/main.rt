@@ -1,4 +1,6 @@
 // Runs the library of maps on worked cases and prints what it got; the stored output has what the rules say.
+#![tactic(auto)]
+
 use maps::checks::check_links;
 use maps::drawn::DrawnMap;
 use maps::hex::HexSheet;

@@ -1,4 +1,6 @@
 // Links kept in rows of at most k cells over lent memory.
+#![tactic(auto)]
+
 mod cells;
 mod lay;
 mod lift;

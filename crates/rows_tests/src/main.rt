@@ -1,4 +1,6 @@
 // What the rows do on small maps and on long chains of turns.
+#![tactic(auto)]
+
 mod paths;
 
 use crate::paths::{Counts, chord, ring};

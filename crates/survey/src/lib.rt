@@ -1,4 +1,6 @@
 // The survey of a map: an order, a table and colours, or the spaces that make the map too dense.
+#![tactic(auto)]
+
 mod fill;
 pub mod look_up;
 mod peel;

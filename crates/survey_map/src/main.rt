@@ -1,4 +1,6 @@
 // Surveys the maps on standard input, one after the other, and answers look-ups on their tables.
+#![tactic(auto)]
+
 use crate::report::report;
 use crate::request::Request;
 use std::alloc::Global;

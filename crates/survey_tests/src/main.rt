@@ -1,4 +1,6 @@
 // Surveys maps small and large, and checks what each survey wrote. With a number as its argument it surveys the largest maps that often, and prints no more than that.
+#![tactic(auto)]
+
 use crate::cases::{run_built, run_cases};
 use crate::repeat::repeat;
 use std::env;

@@ -1,3 +1,5 @@
+#![tactic(auto)]
+
 mod column;
 pub mod goods;
 mod guess;

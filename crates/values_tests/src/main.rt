@@ -1,3 +1,5 @@
+#![tactic(auto)]
+
 use std::io;
 use values::goods::Goods;
 use values::kind::Kind;

@@ -1,5 +1,5 @@
 use Rattle.std.proofs.Common.{◌≡◌, ℕ, ◌<◌, ◌≤◌, Bool, false, cond, ◌⊎◌, length, get_or, sym, ◌∙◌, inl, inr, arith}
-use Rattle.maps.proofs.Cells.{rest, row_goes, row_finds, row_over, first_row, second_row, no_more}
+use Rattle.maps.proofs.Cells.{row_goes, row_finds, row_over, first_row, second_row, no_more}
 use Rattle.maps.proofs.reading.read_rows.Goals as goal
 use Rattle.maps.proofs.reading.read_rows.Goals.{else-loop-cell-test, then-loop-cell-test+then-cell}
 

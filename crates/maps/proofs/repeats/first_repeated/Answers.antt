@@ -1,4 +1,4 @@
-use Rattle.std.proofs.Common.{sym, refl, ◌∙◌, arith}
+use Rattle.std.proofs.Common.{sym, refl, ◌∙◌}
 use Rattle.maps.proofs.Repeating.{below_none, below_more, below_all, past_again}
 use Rattle.maps.proofs.repeats.first_repeated.Goals as goal
 

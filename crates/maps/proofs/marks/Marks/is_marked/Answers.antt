@@ -1,4 +1,4 @@
-use Rattle.std.proofs.Common.{◌≡◌, true, ltb, get_or, sym, rules}
+use Rattle.std.proofs.Common.{◌≡◌, true, ltb, get_or}
 use lib.ListN.{get_or-eq_default}
 use Rattle.std.proofs.lemmas.Bool.{lt-ltb}
 use Rattle.maps.proofs.marks.Marks.is_marked.Goals as goal

@@ -1,4 +1,4 @@
-use Rattle.std.proofs.Common.{ℕ, ◌+◌, ◌*◌, ◌<◌, List, length, refl, arith, rules}
+use Rattle.std.proofs.Common.{ℕ, ◌+◌, ◌*◌, List, length, refl, arith, rules}
 use Rattle.rows.proofs.Backward.{row_before}
 use Rattle.rows.proofs.Changes.{past_same, past_weaker}
 use Rattle.rows.proofs.Laid.{laid_end, laid_at, ends_in}
