@@ -3,7 +3,7 @@ use Rattle.std.proofs.Common.{◌≡◌, ℕ, zero, suc, ◌+◌, ◌≤◌, Boo
 use Rattle.std.proofs.lemmas.List.Sums.{sum_by-cons}
 use Rattle.std.proofs.lemmas.Bool.{cases_Bool, or_cases, or_parts, or_left, or_right, both_ways}
 use Rattle.std.proofs.lemmas.Bool.Decides.{nat_tests}
-use Rattle.std.specs.List.{ContainsAt as Has}
+use Rattle.std.specs.List.{ContainsAt}
 use Rattle.maps.specs.LinkChecks.{AllLinksGood}
 use Rattle.maps.specs.Links.{Link, same}
 use Rattle.maps.proofs.Good.{links_good}
@@ -117,12 +117,12 @@ pub links_printed : (width : ℕ) (links : List Link) → links_of (map (printed
 links_printed width [] = refl
 links_printed width (l ∷ links) = ap (λ (t : List Link). l ∷ t) (links_printed width links)
 
-pub on_printed : (width : ℕ) (links : List Link) (l : Link) → Has links l → On (map (printed_entry width) links) (printed_entry width l)
+pub on_printed : (width : ℕ) (links : List Link) (l : Link) → ContainsAt links l → On (map (printed_entry width) links) (printed_entry width l)
 on_printed width [] l (k, in', at) = absurd (omega arith)
 on_printed width (m ∷ links) l (zero, in', at) = inl (ap (printed_entry width) (at m))
 on_printed width (m ∷ links) l (suc k, in', at) = inr (on_printed width links l (k, omega arith, at))
 
-pub printed_on : (width : ℕ) (links : List Link) (e : Entry) → On (map (printed_entry width) links) e → (l : Link) × Has links l × (printed_entry width l ≡ e)
+pub printed_on : (width : ℕ) (links : List Link) (e : Entry) → On (map (printed_entry width) links) e → (l : Link) × ContainsAt links l × (printed_entry width l ≡ e)
 printed_on width [] e h = elim h [ ]
 printed_on width (m ∷ links) e (inl h) = (m, (0, omega arith, λ d. refl), h)
 printed_on width (m ∷ links) e (inr h) =

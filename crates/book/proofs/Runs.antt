@@ -1,6 +1,6 @@
 -- Runs of calls: one more call, the book at each place of a run, and what stands there.
 use Rattle.std.proofs.Common.{◌≡◌, ℕ, ◌+◌, cond, ◌⊎◌, List, [], ◌∷◌, ◌++◌, fold, count_by, sym, refl, ap, ◌∙◌, subst, inl, inr, ⊎_elim}
-use Rattle.std.specs.List.{AllByRecursion as All}
+use Rattle.std.specs.List.{AllByRecursion}
 use Rattle.book.specs.Answers.{Answers, Leads}
 use Rattle.book.specs.Book.{Entry, Book, new_book, On}
 use Rattle.book.specs.Calls.{Memory, Call, Reply}
@@ -66,7 +66,7 @@ module _ (width : ℕ) (mem : Memory) where
 
   -- an entry is on the book after some events exactly if it was laid among them and not closed since, or was on before and never closed
 
-  on_laid : (e : Entry) (b : Book) (evs : List Event) (b' : Book) → Ran b evs b' → On b'.entries e → Stands width evs e ⊎ (On b.entries e × All (λ f. Strikes f e.link → ⊥) evs)
+  on_laid : (e : Entry) (b : Book) (evs : List Event) (b' : Book) → Ran b evs b' → On b'.entries e → Stands width evs e ⊎ (On b.entries e × AllByRecursion (λ f. Strikes f e.link → ⊥) evs)
   on_laid e b [] b' h on = inr (subst (λ (t : Book). On t.entries e) h on, tt)
   on_laid e b (ev ∷ evs) b' h on =
       ⊎_elim
@@ -77,7 +77,7 @@ module _ (width : ℕ) (mem : Memory) where
       ((step width mem b ev.0 ev.1 h.0 h.1).on e p.0))
       (on_laid e h.0 evs b' h.2 on)
 
-  on_kept : (e : Entry) (b : Book) (evs : List Event) (b' : Book) → Ran b evs b' → On b.entries e → All (λ f. Strikes f e.link → ⊥) evs → On b'.entries e
+  on_kept : (e : Entry) (b : Book) (evs : List Event) (b' : Book) → Ran b evs b' → On b.entries e → AllByRecursion (λ f. Strikes f e.link → ⊥) evs → On b'.entries e
   on_kept e b [] b' h on a = subst (λ (t : Book). On t.entries e) (sym h) on
   on_kept e b (ev ∷ evs) b' h on a = on_kept e h.0 evs b' h.2 ((step width mem b ev.0 ev.1 h.0 h.1).keeps e on a.0) a.1
 

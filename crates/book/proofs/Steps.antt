@@ -1,7 +1,7 @@
 -- What one answer changes in the book: rows of checks, and a step by each call.
 use Rattle.std.proofs.Common.{◌≡◌, ℕ, ◌+◌, ◌<◌, Bool, true, false, cond, T, eqb, ◌⊎◌, List, [], ◌∷◌, ◌++◌, map, length, Some, None, Option, sym, refl, ap, ◌∙◌, subst, inl, inr, ⊎_elim, append-nil, add-zero, arith}
 use Rattle.std.proofs.lemmas.Bool.{cases_Bool, both_ways}
-use Rattle.std.specs.List.{ContainsAt as Has}
+use Rattle.std.specs.List.{ContainsAt}
 use Rattle.maps.specs.Checks.{Check, decided}
 use Rattle.maps.specs.LinkChecks.{AllLinksGood}
 use Rattle.maps.specs.Links.{Link, Meaning, same}
@@ -98,7 +98,7 @@ idle_step width b ev i = record {
 
 -- an accepted event: what it lays, and what it strikes
 
-lays_printing : (width : ℕ) (m : Meaning) (k : ℕ) (lent : Lent) (e : Entry) → Lays width (set_up m k lent, done) e → (l : Link) × Has m.links l × (printed_entry width l ≡ e)
+lays_printing : (width : ℕ) (m : Meaning) (k : ℕ) (lent : Lent) (e : Entry) → Lays width (set_up m k lent, done) e → (l : Link) × ContainsAt m.links l × (printed_entry width l ≡ e)
 lays_printing width m k lent e (printing {l} h) = (l, h, refl)
 
 lays_opened : (width : ℕ) (l : Link) (o : ℕ) (v : Columns) (lent : Lent) (e : Entry) → Lays width (opening l o v lent, done) e → record { link = l; owner = o; value = v } ≡ e

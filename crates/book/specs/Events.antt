@@ -1,6 +1,6 @@
 -- What a run of calls has done, told by the calls and their replies alone. Assumes nothing.
 use Rattle.std.specs.Prelude.{◌≡◌, ℕ, Bool, false, T, List, [], ◌∷◌, ◌++◌, fold, ◌==◌}
-use Rattle.std.specs.List.{ContainsAt as Has, AllByRecursion as All}
+use Rattle.std.specs.List.{ContainsAt, AllByRecursion}
 use Rattle.maps.specs.Links.{Link, Meaning, same}
 use Rattle.book.specs.Book.{Entry, On, Apart, printed_entry}
 use Rattle.book.specs.Calls.{Columns, Lent, Call, Reply}
@@ -18,7 +18,7 @@ events (c ∷ cs) (r ∷ rs) = (c, r) ∷ events cs rs
 
 -- An accepted set-up lays each link of its map, for owner 0 with the zero value; an accepted open lays its link for its owner with its value.
 pub data Lays (width : ℕ) : Event → Entry → Type 0 where
-  printing : {m : Meaning} {k : ℕ} {lent : Lent} {l : Link} → Has m.links l → Lays width (set_up m k lent, done) (printed_entry width l)
+  printing : {m : Meaning} {k : ℕ} {lent : Lent} {l : Link} → ContainsAt m.links l → Lays width (set_up m k lent, done) (printed_entry width l)
   opened : {l : Link} {o : ℕ} {v : Columns} {lent : Lent} → Lays width (opening l o v lent, done) (record { link = l; owner = o; value = v })
 
 -- an accepted close of the link
@@ -32,7 +32,7 @@ pub record Stands (width : ℕ) (es : List Event) (e : Entry) : Type 0 where
   pub since : List Event
   pub split : es ≡ before ++ (event ∷ since)
   pub lays : Lays width event e
-  pub open_since : All (λ f. Strikes f e.link → ⊥) since
+  pub open_since : AllByRecursion (λ f. Strikes f e.link → ⊥) since
 
 -- the entries are exactly what stands after these events, no link twice
 pub record Standing (width : ℕ) (es : List Event) (entries : List Entry) : Type 0 where

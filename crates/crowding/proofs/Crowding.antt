@@ -1,6 +1,6 @@
 -- Links kept in rows overfill no set; the spaces reached, where all are full, are the smallest set that one link more overfills.
 use Rattle.std.proofs.Common.{◌≡◌, ℕ, ◌<◌, ◌≤◌, Bool, true, false, cond, ◌&&◌, List, ◌∷◌, length, get_or, count_by, sym, refl, ap, ◌∙◌, inl, inr, arith}
-use Rattle.std.specs.List.{AllByRecursion as All}
+use Rattle.std.specs.List.{AllByRecursion}
 use Rattle.std.proofs.lemmas.List.Sums.{count_by-le-length}
 use Rattle.std.proofs.ByRecursion.{all-has, All-from_get_or, has_get_or}
 use Rattle.std.proofs.lemmas.Bool.{cases_Bool, and_parts, and_from}
@@ -28,11 +28,11 @@ part_le : (b : Bool) (S : Spaces) (xs : List ℕ) (m : ℕ) → length xs ≤ m 
 part_le true S xs m h = omega (arith, count_by-le-length S xs)
 part_le false S xs m h = omega (arith, count_none xs)
 
-part_full : (b : Bool) (S : Spaces) (xs : List ℕ) (m : ℕ) → (b ≡ true → (length xs ≡ m) × All (λ c. S c ≡ true) xs) → count_by (λ c. b && S c) xs ≡ cond b m 0
+part_full : (b : Bool) (S : Spaces) (xs : List ℕ) (m : ℕ) → (b ≡ true → (length xs ≡ m) × AllByRecursion (λ c. S c ≡ true) xs) → count_by (λ c. b && S c) xs ≡ cond b m 0
 part_full true S xs m h = count_all S xs (h refl).1 ∙ (h refl).0
 part_full false S xs m h = count_none xs
 
-part_tight : (b : Bool) (S : Spaces) (xs : List ℕ) (m : ℕ) → length xs ≤ m → cond b m 0 ≤ count_by (λ c. b && S c) xs → b ≡ true → All (λ c. S c ≡ true) xs
+part_tight : (b : Bool) (S : Spaces) (xs : List ℕ) (m : ℕ) → length xs ≤ m → cond b m 0 ≤ count_by (λ c. b && S c) xs → b ≡ true → AllByRecursion (λ c. S c ≡ true) xs
 part_tight true S xs m h k e = count_full S xs (omega arith)
 part_tight false S xs m h k e = absurd (omega (arith, ap (λ (t : Bool). cond {A = ℕ} t 0 1) e))
 
@@ -47,7 +47,7 @@ module _ (cap : ℕ → ℕ) (n : ℕ) (row : Rows) (links : List Link) (o : Ori
   fair S = omega (arith, held_by_rows S, total_le _ _ n (row_le S))
 
   -- where S has as many links as cells, the rows of its members name members alone
-  pub tight_closed : (S : Spaces) → room cap n S ≤ held S links → (x : ℕ) → x < n → S x ≡ true → All (λ c. S c ≡ true) (row x)
+  pub tight_closed : (S : Spaces) → room cap n S ≤ held S links → (x : ℕ) → x < n → S x ≡ true → AllByRecursion (λ c. S c ≡ true) (row x)
   tight_closed S h x l e = part_tight (S x) S (row x) (cap x) (o.fits x l) (total_tight _ _ n (row_le S) (omega (arith, held_by_rows S)) x l) e
 
   module _ (u v : ℕ) (u_in : u < n) (v_in : v < n) where
@@ -56,7 +56,7 @@ module _ (cap : ℕ → ℕ) (n : ℕ) (row : Rows) (links : List Link) (o : Ori
     reach_in _ at_v = v_in
     reach_in _ (on {x} {y} r h) = all-has (λ c. c < n) (row x) y (o.inside x (reach_in x r)) h
 
-    reach_closed : (S : Spaces) → S u ≡ true → S v ≡ true → ((x : ℕ) → x < n → S x ≡ true → All (λ c. S c ≡ true) (row x)) → (x : ℕ) → Reach row u v x → S x ≡ true
+    reach_closed : (S : Spaces) → S u ≡ true → S v ≡ true → ((x : ℕ) → x < n → S x ≡ true → AllByRecursion (λ c. S c ≡ true) (row x)) → (x : ℕ) → Reach row u v x → S x ≡ true
     reach_closed S eu ev h _ at_u = eu
     reach_closed S eu ev h _ at_v = ev
     reach_closed S eu ev h _ (on {x} {y} r k) = all-has (λ c. S c ≡ true) (row x) y (h x (reach_in x r) (reach_closed S eu ev h x r)) k
@@ -73,7 +73,7 @@ module _ (cap : ℕ → ℕ) (n : ℕ) (row : Rows) (links : List Link) (o : Ori
 -- a set with u and v whose rows are all full, and name members alone, is overfull once u and v are linked
 pub crowded
     : (cap : ℕ → ℕ) (n : ℕ) (row : Rows) (links : List Link) → Oriented cap n row links → (u v : ℕ) (R : Spaces) → R u ≡ true → R v ≡ true
-    → ((x : ℕ) → x < n → R x ≡ true → (length (row x) ≡ cap x) × All (λ c. R c ≡ true) (row x))
+    → ((x : ℕ) → x < n → R x ≡ true → (length (row x) ≡ cap x) × AllByRecursion (λ c. R c ≡ true) (row x))
     → room cap n R < held R ((u, v) ∷ links)
 crowded cap n row links o u v R eu ev full =
     let e : held R links ≡ room cap n R = held_by_rows cap n row links o R ∙ total_same _ _ n (λ x l. part_full (R x) R (row x) (cap x) (full x l)) in

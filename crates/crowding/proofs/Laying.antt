@@ -1,6 +1,6 @@
 -- Where a space with a free cell is reached, flips along the way make room for one more link.
 use Rattle.std.proofs.Common.{◌≡◌, ℕ, zero, suc, ◌+◌, ◌<◌, cond, eqb, ◌⊎◌, List, [], ◌∷◌, ◌++◌, length, get_or, take, drop, count_by, sym, refl, ap, ◌∙◌, subst, inl, inr, arith}
-use Rattle.std.specs.List.{ContainsAt as Has}
+use Rattle.std.specs.List.{ContainsAt}
 use Rattle.std.proofs.lemmas.List.{take-append-drop, drop_more}
 use Rattle.std.proofs.lemmas.List.Sums.{sum_by-cons, sum_by-append}
 use Rattle.std.proofs.ByRecursion.{all-has, has_append_right}
@@ -50,7 +50,7 @@ put_back n u v row ys s = record { here = λ q. s q ∙ ap (λ (zs : List ℕ). 
 -- reached in at most k steps
 abbrev Within : Rows → ℕ → ℕ → ℕ → ℕ → Type 0
 Within row u v zero x = (x ≡ u) ⊎ (x ≡ v)
-Within row u v (suc k) x = Within row u v k x ⊎ ((y : ℕ) × Within row u v k y × Has (row y) x)
+Within row u v (suc k) x = Within row u v k x ⊎ ((y : ℕ) × Within row u v k y × ContainsAt (row y) x)
 
 abbrev Before : Rows → ℕ → ℕ → ℕ → ℕ → Type 0
 Before row u v zero x = ⊥
@@ -61,7 +61,7 @@ before_within row u v zero x b = absurd b
 before_within row u v (suc k) x b = inl b
 
 -- where only the row of x loses numbers, what was reached in k steps still is, or x was reached before
-kept_within : (row row' : Rows) (u v x : ℕ) → ((y c : ℕ) → (y ≡ x → ⊥) → Has (row y) c → Has (row' y) c) → (k z : ℕ) → Within row u v k z → Within row' u v k z ⊎ Before row u v k x
+kept_within : (row row' : Rows) (u v x : ℕ) → ((y c : ℕ) → (y ≡ x → ⊥) → ContainsAt (row y) c → ContainsAt (row' y) c) → (k z : ℕ) → Within row u v k z → Within row' u v k z ⊎ Before row u v k x
 kept_within row row' u v x h zero z w = inl w
 kept_within row row' u v x h (suc k) z (inl w) =
     elim (kept_within row row' u v x h k z w) [ inl w' ↦ inl (inl w') | inr b ↦ inr (before_within row u v k x b) ]
@@ -76,7 +76,7 @@ within_reach row u v _ at_u = (0, inl refl)
 within_reach row u v _ at_v = (0, inr refl)
 within_reach row u v _ (on {x} {y} r h) = let (k, w) = within_reach row u v x r in (suc k, inr (x, w, h))
 
-has_cons : (c : ℕ) (xs : List ℕ) (x : ℕ) → Has xs x → Has (c ∷ xs) x
+has_cons : (c : ℕ) (xs : List ℕ) (x : ℕ) → ContainsAt xs x → ContainsAt (c ∷ xs) x
 has_cons c xs x h = has_append_right (c ∷ []) xs x h
 
 -- One flip along the way: y, which has a free cell, is taken out of the row of x at place k, and x put into the row of y.
@@ -88,12 +88,12 @@ module _ (row : Rows) (x y k : ℕ) where
   turned = at y (x ∷ lifted_off y) lifted_off
 
   -- only the row of x loses a number
-  turned_has : (z c : ℕ) → (z ≡ x → ⊥) → Has (row z) c → Has (turned z) c
+  turned_has : (z c : ℕ) → (z ≡ x → ⊥) → ContainsAt (row z) c → ContainsAt (turned z) c
   turned_has z c ne h =
       let e : lifted_off z ≡ row z = at_else x (without k (row x)) row z ne in
       elim (cases_eq z y) [
         | inl q ↦
-            let i : Has (lifted_off y) c = subst (λ (t : ℕ). Has (lifted_off t) c) q (rw e h) in
+            let i : ContainsAt (lifted_off y) c = subst (λ (t : ℕ). ContainsAt (lifted_off t) c) q (rw e h) in
             rw q (rw (at_here y (x ∷ lifted_off y) lifted_off) (has_cons x (lifted_off y) c i))
         | inr nq ↦ rw (at_else y (x ∷ lifted_off y) lifted_off z nq) (rw e h)
       ]

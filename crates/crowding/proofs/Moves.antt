@@ -1,6 +1,6 @@
 -- A cell filled, emptied, or turned to the link's other end.
 use Rattle.std.proofs.Common.{◌≡◌, ℕ, suc, ◌+◌, ◌<◌, Bool, true, cond, ltb, List, [], ◌∷◌, length, count_by, sym, refl, ap, ◌∙◌, inl, inr, arith}
-use Rattle.std.specs.List.{AllByRecursion as All}
+use Rattle.std.specs.List.{AllByRecursion}
 use Rattle.std.proofs.lemmas.List.Sums.{sum_by-cons}
 use Rattle.std.proofs.ByRecursion.{All-weaker}
 use Rattle.std.proofs.lemmas.Bool.{cases_eq, lt-ltb, ltb-true}
@@ -18,10 +18,10 @@ count_true (x ∷ xs) = count_yes (λ _. true) x xs refl ∙ ap suc (count_true 
 pub same_length : (xs ys : List ℕ) → Same xs ys → length xs ≡ length ys
 same_length xs ys h = sym (count_true xs) ∙ h (λ _. true) ∙ count_true ys
 
-same_all : (p : ℕ → Bool) (xs ys : List ℕ) → Same xs ys → All (λ c. p c ≡ true) ys → All (λ c. p c ≡ true) xs
+same_all : (p : ℕ → Bool) (xs ys : List ℕ) → Same xs ys → AllByRecursion (λ c. p c ≡ true) ys → AllByRecursion (λ c. p c ≡ true) xs
 same_all p xs ys h a = count_full p xs (omega (arith, h p, count_all p ys a, same_length xs ys h))
 
-pub same_inside : (n : ℕ) (xs ys : List ℕ) → Same xs ys → All (λ c. c < n) ys → All (λ c. c < n) xs
+pub same_inside : (n : ℕ) (xs ys : List ℕ) → Same xs ys → AllByRecursion (λ c. c < n) ys → AllByRecursion (λ c. c < n) xs
 same_inside n xs ys h a =
     All-weaker (λ c. ltb c n ≡ true) (λ c. c < n) (λ c. ltb-true c n) xs
     (same_all (λ c. ltb c n) xs ys h (All-weaker (λ c. c < n) (λ c. ltb c n ≡ true) (λ c. lt-ltb c n) ys a))

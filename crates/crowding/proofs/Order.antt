@@ -1,6 +1,6 @@
 -- An order in which each space has few links to those before it.
 use Rattle.std.proofs.Common.{◌≡◌, ℕ, ◌+◌, ◌<◌, ◌≤◌, Bool, true, false, cond, ◌&&◌, ◌||◌, eqb, ltb, List, [], ◌∷◌, refl, ap, inl, inr, arith}
-use Rattle.std.specs.List.{AllByRecursion as All}
+use Rattle.std.specs.List.{AllByRecursion}
 use Rattle.std.proofs.lemmas.List.Sums.{sum_by-cons}
 use Rattle.std.proofs.lemmas.Bool.{cases_Bool, cases_order, and_parts, and_from, or_left, or_right, eq-eqb, lt-ltb, cond-true}
 use Rattle.maps.specs.Links.{Link}
@@ -38,7 +38,7 @@ module _ (n : ℕ) (place : ℕ → ℕ) (S : Spaces) where
   cond_add : (b : Bool) (x y z : ℕ) → z ≡ x + y → cond b z 0 ≡ cond b x 0 + cond b y 0
   cond_add b x y z e = grind arith
 
-  all_links : (links : List Link) → All (λ l. (l.0 < n) × (l.1 < n) × (place l.0 ≡ place l.1 → ⊥)) links → held S links ≤ total (λ v. cond (S v) (earlier place v links) 0) n
+  all_links : (links : List Link) → AllByRecursion (λ l. (l.0 < n) × (l.1 < n) × (place l.0 ≡ place l.1 → ⊥)) links → held S links ≤ total (λ v. cond (S v) (earlier place v links) 0) n
   all_links [] h = omega arith
   all_links (l ∷ links) h =
       omega (

@@ -1,6 +1,6 @@
 -- The spaces that are reached form a set, and so each link can be kept or some set is overfull with it.
 use Rattle.std.proofs.Common.{◌≡◌, ℕ, zero, suc, ◌+◌, ◌<◌, ◌≤◌, Bool, true, false, not, ◌&&◌, ◌||◌, eqb, ltb, ◌⊎◌, List, [], ◌∷◌, length, get_or, Decides, refl, ap, ◌∙◌, inl, inr, arith}
-use Rattle.std.specs.List.{ContainsAt as Has, AllByRecursion as All}
+use Rattle.std.specs.List.{ContainsAt, AllByRecursion}
 use Rattle.std.proofs.lemmas.List.Sums.{sum_by-cons}
 use Rattle.std.proofs.ByRecursion.{all-has, All-from_get_or, has_get_or}
 use Rattle.std.proofs.lemmas.Bool.{cases_Bool, cases_lt, not-true, not_from_false, eq-eqb, ne_eqb, eqb-true, or_cases, or_left, or_right}
@@ -19,7 +19,7 @@ abbrev among : ℕ → List ℕ → Bool
 among c [] = false
 among c (x ∷ xs) = eqb x c || among c xs
 
-among_decides : (c : ℕ) (xs : List ℕ) → Decides (among c xs) (Has xs c)
+among_decides : (c : ℕ) (xs : List ℕ) → Decides (among c xs) (ContainsAt xs c)
 among_decides c xs = Decides-by_or (λ y. eqb y c) (λ y. y ≡ c) (among c) (λ y. Decides-eqb y c) refl (λ _ _. refl) xs
 
 abbrev below : (ℕ → Bool) → ℕ → Bool
@@ -58,7 +58,7 @@ size_more n R x l e =
 
 module _ (cap : ℕ → ℕ) (n : ℕ) (row : Rows) (links : List Link) (o : Oriented cap n row links) (u v : ℕ) (u_in : u < n) (v_in : v < n) where
   abbrev Stepped : Spaces → ℕ → Type 0
-  Stepped R x = (y : ℕ) × (y < n) × ((R y ≡ true) × Has (row y) x)
+  Stepped R x = (y : ℕ) × (y < n) × ((R y ≡ true) × ContainsAt (row y) x)
 
   abbrev steps : Spaces → ℕ → Bool
   steps R x = not (R x) && below (λ y. R y && among x (row y)) n
@@ -67,7 +67,7 @@ module _ (cap : ℕ → ℕ) (n : ℕ) (row : Rows) (links : List Link) (o : Ori
   step_decides R =
       below_decides (steps R) (λ x. (R x ≡ false) × Stepped R x)
       (λ x. Decides-and (not (R x)) _ (false_decides (R x))
-      (below_decides (λ y. R y && among x (row y)) (λ y. (R y ≡ true) × Has (row y) x) (λ y. Decides-and (R y) _ (true_decides (R y)) (among_decides x (row y))) n)) n
+      (below_decides (λ y. R y && among x (row y)) (λ y. (R y ≡ true) × ContainsAt (row y) x) (λ y. Decides-and (R y) _ (true_decides (R y)) (among_decides x (row y))) n)) n
 
   -- part of what is reached
   record Found (R : Spaces) : Type 0 where
@@ -76,7 +76,7 @@ module _ (cap : ℕ → ℕ) (n : ℕ) (row : Rows) (links : List Link) (o : Ori
     reached : (x : ℕ) → R x ≡ true → Reach row u v x
 
   abbrev Closed : Spaces → Type 0
-  Closed R = (x : ℕ) → x < n → R x ≡ true → All (λ c. R c ≡ true) (row x)
+  Closed R = (x : ℕ) → x < n → R x ≡ true → AllByRecursion (λ c. R c ≡ true) (row x)
 
   more_found : (R : Spaces) (x : ℕ) → Found R → Stepped R x → Found (with_one x R)
   more_found R x f (y, l, (e, h)) =
@@ -90,7 +90,7 @@ module _ (cap : ℕ → ℕ) (n : ℕ) (row : Rows) (links : List Link) (o : Ori
   closed_now R e x l r =
       All-from_get_or (λ c. R c ≡ true) (row x) 0 (λ i li.
       let c : ℕ = get_or (row x) i 0 in
-      let h : Has (row x) c = has_get_or (row x) i 0 li in
+      let h : ContainsAt (row x) c = has_get_or (row x) i 0 li in
       elim (cases_Bool (R c)) [
         | inl t ↦ t
         | inr t ↦ absurd (not_from_Decides (below (steps R) n) (step_decides R) e (c, all-has (λ d. d < n) (row x) c (o.inside x l) h, (t, (x, l, (r, h)))))

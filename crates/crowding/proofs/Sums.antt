@@ -1,6 +1,6 @@
 -- Sums below n, and counts.
 use Rattle.std.proofs.Common.{◌≡◌, ℕ, zero, suc, ◌+◌, ◌<◌, ◌≤◌, Bool, true, false, cond, ◌≢◌, List, [], ◌∷◌, map, length, count_by, refl, ap, ◌∙◌, inl, inr, arith}
-use Rattle.std.specs.List.{AllByRecursion as All}
+use Rattle.std.specs.List.{AllByRecursion}
 use Rattle.std.proofs.lemmas.List.Sums.{sum_by-cons, sum_by-append, count_by-le-length}
 use Rattle.std.proofs.lemmas.Bool.{cases_eq, cases_Bool}
 use Rattle.maps.specs.Links.{Link}
@@ -50,7 +50,7 @@ pub count_none : {X : Type 0} (xs : List X) → count_by (λ _. false) xs ≡ 0
 count_none [] = refl
 count_none (x ∷ xs) = count_no (λ _. false) x xs refl ∙ count_none xs
 
-pub count_full : {X : Type 0} (p : X → Bool) (xs : List X) → length xs ≤ count_by p xs → All (λ x. p x ≡ true) xs
+pub count_full : {X : Type 0} (p : X → Bool) (xs : List X) → length xs ≤ count_by p xs → AllByRecursion (λ x. p x ≡ true) xs
 count_full p [] h = tt
 count_full p (x ∷ xs) h =
     elim (cases_Bool (p x)) [
@@ -58,7 +58,7 @@ count_full p (x ∷ xs) h =
       | inr e ↦ absurd (omega (arith, count_no p x xs e, count_by-le-length p xs))
     ]
 
-pub count_all : {X : Type 0} (p : X → Bool) (xs : List X) → All (λ x. p x ≡ true) xs → count_by p xs ≡ length xs
+pub count_all : {X : Type 0} (p : X → Bool) (xs : List X) → AllByRecursion (λ x. p x ≡ true) xs → count_by p xs ≡ length xs
 count_all p [] h = refl
 count_all p (x ∷ xs) h = omega (arith, count_yes p x xs h.0, count_all p xs h.1)
 

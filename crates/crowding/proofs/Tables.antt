@@ -1,7 +1,7 @@
 -- The rows of a flat table of cells.
 use Rattle.std.proofs.Common.{◌≡◌, ℕ, ◌+◌, ◌-◌, ◌*◌, ◌<◌, ◌≤◌, Bool, true, false, cond, not, ◌&&◌, eqb, List, [], ◌∷◌, length, get_or, take, drop, set, count_by, filter, sym, refl, ap, ◌∙◌, inl, inr, mul-le-mul_right, arith}
 use lib.Seq.{take-set-lt}
-use Rattle.std.specs.List.{ContainsAt as Has}
+use Rattle.std.specs.List.{ContainsAt}
 use Rattle.std.proofs.lemmas.List.{drop-set-lt, drop-set-add, take-set-le, get_or-take, get_or-drop, length-drop, length-take}
 use Rattle.std.proofs.lemmas.List.Sums.{sum_by-cons, sum_by-set, length-filter, count_by-le-length, get_or-le-sum_by}
 use Rattle.std.proofs.ByRecursion.{All-get_or, All-from_get_or, all-has, all_kept_by, all_has_itself, has_append_right}
@@ -118,7 +118,7 @@ row_full k table v l =
       omega (arith, count_by-le-length occupied xs),
     )
 
-pub count_has : (c : ℕ) (xs : List ℕ) → 1 ≤ count_by (λ x. eqb x c) xs → Has xs c
+pub count_has : (c : ℕ) (xs : List ℕ) → 1 ≤ count_by (λ x. eqb x c) xs → ContainsAt xs c
 count_has c [] h = absurd (omega arith)
 count_has c (x ∷ xs) h =
     elim (cases_Bool (eqb x c)) [
@@ -129,8 +129,8 @@ count_has c (x ∷ xs) h =
 -- a row has what a filled cell of it has, and nothing else
 pub row_has
     : (k : ℕ) (table : List ℕ) (v c : ℕ) → v * k + k ≤ length table → (c ≡ 65535 → ⊥)
-    → ((j : ℕ) → j < k → get_or table (v * k + j) 0 ≡ c → Has (table_rows k table v) c)
-    × (Has (table_rows k table v) c → (j : ℕ) × (j < k) × (get_or table (v * k + j) 0 ≡ c))
+    → ((j : ℕ) → j < k → get_or table (v * k + j) 0 ≡ c → ContainsAt (table_rows k table v) c)
+    × (ContainsAt (table_rows k table v) c → (j : ℕ) × (j < k) × (get_or table (v * k + j) 0 ≡ c))
 unfolding part
 row_has k table v c l ne =
     let xs : List ℕ = part k table v in
@@ -148,7 +148,7 @@ row_has k table v c l ne =
             ap bit (eq-eqb c c refl),
           )),
       λ h.
-          let (i, li, e) = all-has (Has xs) (filter occupied xs) c (all_kept_by occupied (Has xs) xs (all_has_itself xs)) h in
+          let (i, li, e) = all-has (ContainsAt xs) (filter occupied xs) c (all_kept_by occupied (ContainsAt xs) xs (all_has_itself xs)) h in
           let lk : i < k = omega arith in
           (i, lk, sym (part_at k table v i lk) ∙ e 0),
     )

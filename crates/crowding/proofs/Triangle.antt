@@ -1,6 +1,6 @@
 -- The example of three spaces.
 use Rattle.std.proofs.Common.{◌≡◌, ℕ, ◌<◌, ◌≤◌, [], ◌∷◌, length, get_or, refl, inl, inr, arith}
-use Rattle.std.specs.List.{ContainsAt as Has, AllByRecursion as All}
+use Rattle.std.specs.List.{ContainsAt, AllByRecursion}
 use Rattle.std.proofs.ByRecursion.{All-get_or}
 use Rattle.std.proofs.lemmas.Bool.{cases_eq}
 use Rattle.maps.proofs.Good.{true_T}
@@ -18,11 +18,11 @@ unfolding rows
 kept =
     record {
       fits = λ v l. All-get_or (λ xs. length xs ≤ 1) ((1 ∷ []) ∷ (2 ∷ []) ∷ (0 ∷ []) ∷ []) v [] l (omega arith, (omega arith, (omega arith, tt)));
-      inside = λ v l. All-get_or (λ xs. All (λ c. c < 3) xs) ((1 ∷ []) ∷ (2 ∷ []) ∷ (0 ∷ []) ∷ []) v [] l ((omega arith, tt), ((omega arith, tt), ((omega arith, tt), tt)));
+      inside = λ v l. All-get_or (λ xs. AllByRecursion (λ c. c < 3) xs) ((1 ∷ []) ∷ (2 ∷ []) ∷ (0 ∷ []) ∷ []) v [] l ((omega arith, tt), ((omega arith, tt), ((omega arith, tt), tt)));
       same = λ p s. refl;
     }
 
-next : Has (rows 1) 2
+next : ContainsAt (rows 1) 2
 unfolding rows
 next = (0, omega arith, λ d. refl)
 

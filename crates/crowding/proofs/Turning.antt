@@ -1,6 +1,6 @@
 -- One link turned on the way back.
 use Rattle.std.proofs.Common.{◌≡◌, ℕ, ◌<◌, ◌≤◌, eqb, List, get_or, count_by, ap, inl, inr, arith}
-use Rattle.std.specs.List.{ContainsAt as Has}
+use Rattle.std.specs.List.{ContainsAt}
 use Rattle.std.proofs.lemmas.List.Sums.{sum_by-cons, get_or-le-sum_by}
 use Rattle.std.proofs.lemmas.Bool.{cases_eq, eq-eqb}
 use Rattle.crowding.specs.Orientation.{Rows}
@@ -10,11 +10,11 @@ use Rattle.crowding.proofs.Sums.{bit}
 use Rattle.crowding.proofs.Tables.{count_has}
 use Rattle.crowding.proofs.Moves.{flipped, put_lengths}
 
-pub has_count : (c : ℕ) (xs : List ℕ) → Has xs c → 1 ≤ count_by (λ x. eqb x c) xs
+pub has_count : (c : ℕ) (xs : List ℕ) → ContainsAt xs c → 1 ≤ count_by (λ x. eqb x c) xs
 has_count c xs (i, l, e) = omega (arith, get_or-le-sum_by (λ x. bit (eqb x c)) xs i 0 l, ap bit (eq-eqb (get_or xs i 0) c (e 0)))
 
 module _ (n u v : ℕ) (row row' : Rows) (m : Put n u v row row') where
-  pub put_has : (x c : ℕ) → x < n → Has (row x) c → Has (row' x) c
+  pub put_has : (x c : ℕ) → x < n → ContainsAt (row x) c → ContainsAt (row' x) c
   put_has x c l h =
       elim (cases_eq x u) [
         | inl q ↦
@@ -23,7 +23,7 @@ module _ (n u v : ℕ) (row row' : Rows) (m : Put n u v row row') where
         | inr ne ↦ count_has c (row' x) (omega (arith, has_count c (row x) h, m.others x l ne (λ y. eqb y c)))
       ]
 
-  pub out_has : (x c : ℕ) → x < n → (x ≡ u → ⊥) → Has (row' x) c → Has (row x) c
+  pub out_has : (x c : ℕ) → x < n → (x ≡ u → ⊥) → ContainsAt (row' x) c → ContainsAt (row x) c
   out_has x c l ne h = count_has c (row x) (omega (arith, has_count c (row' x) h, m.others x l ne (λ y. eqb y c)))
 
 pub turned : Turned

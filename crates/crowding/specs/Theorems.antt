@@ -1,6 +1,6 @@
 -- What is proved of links kept as an orientation. Assumes nothing.
 use Rattle.std.specs.Prelude.{◌≡◌, ℕ, ◌+◌, ◌*◌, ◌<◌, ◌≤◌, true, List, [], ◌∷◌, length, Decides, count_by, ◌≢◌, slice_index, slice_set}
-use Rattle.std.specs.List.{AllByRecursion as All}
+use Rattle.std.specs.List.{AllByRecursion}
 use Rattle.maps.specs.Density.{Crowded, SmallestOverfull}
 use Rattle.maps.specs.Links.{Link, same}
 use Rattle.maps.specs.Sets.{Spaces, size}
@@ -15,7 +15,7 @@ use Rattle.crowding.specs.Turning.{Turning}
 
 -- both ends are spaces
 abbrev pub EndsIn : ℕ → List Link → Type 0
-EndsIn n links = All (λ l. (l.0 < n) × (l.1 < n)) links
+EndsIn n links = AllByRecursion (λ l. (l.0 < n) × (l.1 < n)) links
 
 -- Links can be kept in rows exactly where no set holds more of them than it has cells.
 abbrev pub KeptIfFair : Type 0
@@ -81,7 +81,7 @@ SameByPairs =
 abbrev pub OrderedFair : Type 0
 OrderedFair =
     (cap : ℕ → ℕ) (n : ℕ) (links : List Link) (place : ℕ → ℕ) →
-    All (λ l. (l.0 < n) × (l.1 < n) × (place l.0 ≢ place l.1)) links →
+    AllByRecursion (λ l. (l.0 < n) × (l.1 < n) × (place l.0 ≢ place l.1)) links →
     ((v : ℕ) → v < n → earlier place v links ≤ cap v) → Fair cap n links
 
 -- In a flat table, writing c into an empty cell of row v puts c into that row and changes no other; emptying a cell takes out what it held.

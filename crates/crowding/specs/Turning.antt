@@ -1,6 +1,6 @@
 -- A free cell on its way back to one of two spaces u and v, by links turned one after the other. Assumes nothing.
 use Rattle.std.specs.Prelude.{◌≡◌, ℕ, ◌<◌, ◌≤◌, true, ◌⊎◌, List, length}
-use Rattle.std.specs.List.{ContainsAt as Has}
+use Rattle.std.specs.List.{ContainsAt}
 use Rattle.maps.specs.Links.{Link}
 use Rattle.maps.specs.Sets.{Spaces}
 use Rattle.crowding.specs.Orientation.{Rows, Oriented}
@@ -11,4 +11,4 @@ pub record Turning (cap : ℕ → ℕ) (n : ℕ) (links : List Link) (u v : ℕ)
   pub here : found w ≡ true
   pub free : length (row w) < cap w
   pub inside : (x : ℕ) → found x ≡ true → x < n
-  pub back : (x : ℕ) → found x ≡ true → turn x ≤ turn w → ((x ≡ u) ⊎ (x ≡ v)) ⊎ ((found (parent x) ≡ true) × (turn (parent x) < turn x) × Has (row (parent x)) x)
+  pub back : (x : ℕ) → found x ≡ true → turn x ≤ turn w → ((x ≡ u) ⊎ (x ≡ v)) ⊎ ((found (parent x) ≡ true) × (turn (parent x) < turn x) × ContainsAt (row (parent x)) x)

@@ -1,6 +1,6 @@
 -- The checks of a list of links, in list order. Assumes nothing.
 use Rattle.std.specs.Prelude.{◌≡◌, ℕ, ◌<◌, ◌≤◌, T, ◌⊎◌, List, [], ◌∷◌, length, take, count_by, ◌≢◌, slice_index_or}
-use Rattle.std.specs.List.{AllByRecursion as All}
+use Rattle.std.specs.List.{AllByRecursion}
 use Rattle.maps.specs.Checks.{Check, decided}
 use Rattle.maps.specs.Links.{Link, same, some_same}
 
@@ -29,7 +29,7 @@ AllLinksGood n links = (q : ℕ) → q < length links → Passes n links q
 
 -- each link joins two different spaces below n
 abbrev pub EndsGood : ℕ → List Link → Type 0
-EndsGood n links = All (λ l. (l.0 < n) × (l.1 < n) × (l.0 ≢ l.1)) links
+EndsGood n links = AllByRecursion (λ l. (l.0 < n) × (l.1 < n) × (l.0 ≢ l.1)) links
 
 -- and no two spaces are joined twice
 pub record GoodLinks (n : ℕ) (links : List Link) : Type 0 where

@@ -1,6 +1,6 @@
 -- Spaces, links, and what a map means. Assumes nothing.
 use Rattle.std.specs.Prelude.{ℕ, ◌^◌, ◌<◌, Bool, false, cond, ◌&&◌, ◌||◌, List, [], ◌∷◌, length, Some, None, Option, ◌==◌, nat_lt, slice_index_or}
-use Rattle.std.specs.List.{AllByRecursion as All}
+use Rattle.std.specs.List.{AllByRecursion}
 
 -- two spaces; which of them comes first means nothing
 abbrev pub Link : Type 0
@@ -28,4 +28,4 @@ pair_at links place = cond (nat_lt place (length links)) (Some (slice_index_or l
 pub record InRange (m : Meaning) : Type 0 where
   pub spaces_fit : m.spaces < 2 ^ 32
   pub links_fit : length m.links < 2 ^ 32
-  pub ends_fit : All (λ l. (l.0 < 2 ^ 16) × (l.1 < 2 ^ 16)) m.links
+  pub ends_fit : AllByRecursion (λ l. (l.0 < 2 ^ 16) × (l.1 < 2 ^ 16)) m.links

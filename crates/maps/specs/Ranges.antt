@@ -2,7 +2,7 @@
 use Rattle.std.specs.Prelude.{◌≡◌, ℕ, zero, suc, ◌+◌, ◌-◌, ◌*◌, ◌/◌, ◌%◌, ◌^◌, ◌<◌, ◌≤◌, min, List, [], ◌∷◌, map, length, ◌==◌, slice_index, slice_index_or, refl}
 use Rattle.std.proofs.Common.{sym, ◌∙◌, arith, not-suc-le-zero, suc-mul, zero-mul, length-take, length-append, get_or-take}
 use Rattle.std.proofs.Math.Nat.{mul-le-mul}
-use Rattle.std.specs.List.{range_with_len, flat_map, AllByRecursion as All}
+use Rattle.std.specs.List.{range_with_len, flat_map, AllByRecursion}
 use Rattle.std.proofs.ByRecursion.{All-from_get_or, All-append, All-map}
 use Rattle.std.proofs.lemmas.List.FromFn.{length-map-range_with_len}
 use Rattle.std.proofs.lemmas.Nat.{mul-add-lt}
@@ -63,11 +63,11 @@ length_blocks g w a (suc n) =
     length-append (map (g a) (range_with_len 0 w)) (blocks g w (a + 1) n)
     ∙ omega (arith, length-map-range_with_len (g a) 0 w, length_blocks g w (a + 1) n, suc-mul n w)
 
-all_counting : (P : ℕ → Type 0) (a n : ℕ) → ((i : ℕ) → i < a + n → P i) → All P (range_with_len a n)
+all_counting : (P : ℕ → Type 0) (a n : ℕ) → ((i : ℕ) → i < a + n → P i) → AllByRecursion P (range_with_len a n)
 all_counting P a zero h = tt
 all_counting P a (suc n) h = (h a (omega arith), all_counting P (a + 1) n (λ i l. h i (omega arith)))
 
-all_blocks : {X : Type 0} (P : X → Type 0) (g : ℕ → ℕ → X) (w a n : ℕ) → ((q r : ℕ) → q < a + n → r < w → P (g q r)) → All P (blocks g w a n)
+all_blocks : {X : Type 0} (P : X → Type 0) (g : ℕ → ℕ → X) (w a n : ℕ) → ((q r : ℕ) → q < a + n → r < w → P (g q r)) → AllByRecursion P (blocks g w a n)
 all_blocks P g w a zero h = tt
 all_blocks P g w a (suc n) h =
     All-append P (map (g a) (range_with_len 0 w)) (blocks g w (a + 1) n)

@@ -1,6 +1,6 @@
 -- Turning links on the way back from a free cell.
 use Rattle.std.proofs.Common.{◌≡◌, ℕ, ◌+◌, ◌*◌, ◌<◌, ◌≤◌, true, List, length, get_or, sym, refl, ap, ◌∙◌, subst, inl, inr, mul-le-mul_right, arith}
-use Rattle.std.specs.List.{ContainsAt as Has}
+use Rattle.std.specs.List.{ContainsAt}
 use Rattle.std.proofs.ByRecursion.{All-from_get_or, has_get_or}
 use Rattle.std.proofs.lemmas.List.{get_or-map}
 use Rattle.maps.specs.Links.{Link}
@@ -25,7 +25,7 @@ own n k t s =
       fits = λ v l. (row_full k t v (row_in n k (length t) v s.long l)).2;
       inside = λ v l. All-from_get_or (λ c. c < n) (table_rows k t v) 0 (λ i li.
           let c : ℕ = get_or (table_rows k t v) i 0 in
-          let h : Has (table_rows k t v) c = has_get_or (table_rows k t v) i 0 li in
+          let h : ContainsAt (table_rows k t v) c = has_get_or (table_rows k t v) i 0 li in
           let (j, lj, e) = row_cell k t v c (row_in n k (length t) v s.long l) h in
           rw e at (s.named v j l lj (λ q. row_some k t v c h (sym e ∙ q))));
       same = λ p s. refl;
@@ -50,12 +50,12 @@ module _
   w_free = here.free
 
   module _ (p : ℕ) (is : parent_of m w ≡ p) (na : w ≡ a → ⊥) (nb : w ≡ b → ⊥) where
-    back : (found p ≡ true) × (turn_of m p < turn_of m w) × Has (table_rows m.k t p) w
+    back : (found p ≡ true) × (turn_of m p < turn_of m w) × ContainsAt (table_rows m.k t p) w
     back =
         elim (here.back w here.here (omega arith)) [
           | inl (inl e) ↦ absurd (na e)
           | inl (inr e) ↦ absurd (nb e)
-          | inr h ↦ subst (λ (x : ℕ). (found x ≡ true) × (turn_of m x < turn_of m w) × Has (table_rows m.k t x) w) is h
+          | inr h ↦ subst (λ (x : ℕ). (found x ≡ true) × (turn_of m x < turn_of m w) × ContainsAt (table_rows m.k t x) w) is h
         ]
 
     pub p_in : p < m.n
@@ -64,7 +64,7 @@ module _
     pub p_less : turn_of m p < turn_of m w
     p_less = back.1
 
-    pub p_has : Has (table_rows m.k t p) w
+    pub p_has : ContainsAt (table_rows m.k t p) w
     p_has = back.2
 
     apart : w ≡ p → ⊥

@@ -1,6 +1,6 @@
 -- The steps of a search along the rows, and what it has shown when it ends.
 use Rattle.std.proofs.Common.{◌≡◌, ℕ, zero, suc, ◌+◌, ◌<◌, ◌≤◌, Bool, true, false, not, ◌&&◌, eqb, ltb, ◌⊎◌, List, length, get_or, set, Decides, sym, refl, ap, ◌∙◌, inl, inr, arith}
-use Rattle.std.specs.List.{ContainsAt as Has}
+use Rattle.std.specs.List.{ContainsAt}
 use Rattle.std.proofs.lemmas.List.{get_or-set_same, get_or-set_other}
 use Rattle.std.proofs.lemmas.Bool.{cases_eq, both_ways, and_from, and_parts, lt-ltb, ltb-true, ne_eqb}
 use Rattle.maps.specs.Links.{Link}
@@ -57,7 +57,7 @@ module _
     (now_q : queue' tail ≡ c) (else_q : (i : ℕ) → (i ≡ tail → ⊥) → queue' i ≡ queue i)
     (now_parent : parent' c ≡ p) (else_parent : (x : ℕ) → (x ≡ c → ⊥) → parent' x ≡ parent x)
     (now_turn : turn' c ≡ tail) (else_turn : (x : ℕ) → (x ≡ c → ⊥) → turn' x ≡ turn x)
-    (why : (tail < 2) ⊎ ((S p ≡ true) × Has (row p) c)) where
+    (why : (tail < 2) ⊎ ((S p ≡ true) × ContainsAt (row p) c)) where
   not_c : (x : ℕ) → S x ≡ true → x ≡ c → ⊥
   not_c x e q = both_ways (S c) fresh (rw q at e)
 
@@ -142,7 +142,7 @@ module _ (n : ℕ) (row : Rows) (S : Spaces) (queue parent turn : ℕ → ℕ) (
 
   -- where the search has gone through all that it found, it found all that is reached
   module _ (k : ℕ) (two : 2 ≤ tail) (spread : Spread k row S queue tail) where
-    full_at : (x : ℕ) → S x ≡ true → (length (row x) ≡ k) × ((c : ℕ) → Has (row x) c → S c ≡ true)
+    full_at : (x : ℕ) → S x ≡ true → (length (row x) ≡ k) × ((c : ℕ) → ContainsAt (row x) c → S c ≡ true)
     full_at x e = let h = spread (turn x) (s.noted x e).0 in rw (s.noted x e).1 at h
 
     all_found : (x : ℕ) → Reach row a b x → S x ≡ true

@@ -1,6 +1,6 @@
 -- Which links are kept, told by the rows.
 use Rattle.std.proofs.Common.{◌≡◌, ℕ, zero, suc, ◌<◌, ◌≤◌, Bool, true, false, ◌&&◌, eqb, ◌⊎◌, List, [], ◌∷◌, count_by, sym, refl, ap, ◌∙◌, subst, inl, inr, arith}
-use Rattle.std.specs.List.{ContainsAt as Has}
+use Rattle.std.specs.List.{ContainsAt}
 use Rattle.std.proofs.ByRecursion.{all-has, has_append_right}
 use Rattle.std.proofs.lemmas.List.Sums.{sum_by-cons, get_or-le-sum_by}
 use Rattle.std.proofs.lemmas.Bool.{cases_Bool, cases_lt, eqb-true, eq-eqb, and_parts, or_cases}
@@ -12,7 +12,7 @@ use Rattle.crowding.proofs.Pairs.{same_symmetric, same_self, some_same_yes, some
 use Rattle.crowding.proofs.Sums.{bit, count_no, count_cells, total_at_lem}
 use Rattle.crowding.proofs.Tables.{count_has}
 
-some_pass : (q : ℕ → Bool) (xs : List ℕ) → 1 ≤ count_by q xs → (c : ℕ) × Has xs c × (q c ≡ true)
+some_pass : (q : ℕ → Bool) (xs : List ℕ) → 1 ≤ count_by q xs → (c : ℕ) × ContainsAt xs c × (q c ≡ true)
 some_pass q [] h = absurd (omega arith)
 some_pass q (x ∷ xs) h =
     elim (cases_Bool (q x)) [
@@ -29,7 +29,7 @@ some_total f (suc n) h =
     ]
 
 -- a test that no cell passes
-pub no_cells : (p : Link → Bool) (row : Rows) (n : ℕ) → ((v c : ℕ) → v < n → Has (row v) c → p (v, c) ≡ true → ⊥) → count_by p (cells row n) ≡ 0
+pub no_cells : (p : Link → Bool) (row : Rows) (n : ℕ) → ((v c : ℕ) → v < n → ContainsAt (row v) c → p (v, c) ≡ true → ⊥) → count_by p (cells row n) ≡ 0
 no_cells p row n none = elim (cases_lt 0 (count_by p (cells row n))) [ inl l ↦ absurd (there l) | inr g ↦ omega arith ]
   where
     there : 0 < count_by p (cells row n) → ⊥
@@ -47,15 +47,15 @@ either a b v c e =
     ]
 
 module _ (cap : ℕ → ℕ) (n : ℕ) (row : Rows) (links : List Link) (a b : ℕ) (o : Oriented cap n row links) where
-  none_there : ((v c : ℕ) → v < n → Has (row v) c → same (a, b) (v, c) ≡ true → ⊥) → some_same (a, b) links ≡ false
+  none_there : ((v c : ℕ) → v < n → ContainsAt (row v) c → same (a, b) (v, c) ≡ true → ⊥) → some_same (a, b) links ≡ false
   none_there h = some_same_no (a, b) links (sym (o.same (same (a, b)) (same_symmetric (a, b))) ∙ no_cells (same (a, b)) row n h)
 
   -- neither row names the other end
-  pub not_kept : (Has (row a) b → ⊥) → (Has (row b) a → ⊥) → some_same (a, b) links ≡ false
+  pub not_kept : (ContainsAt (row a) b → ⊥) → (ContainsAt (row b) a → ⊥) → some_same (a, b) links ≡ false
   not_kept na nb =
       none_there (λ v c lv has e. elim (either a b v c e) [
-        | inl (p, q) ↦ na (subst (λ (x : ℕ). Has (row a) x) q (subst (λ (x : ℕ). Has (row x) c) p has))
-        | inr (p, q) ↦ nb (subst (λ (x : ℕ). Has (row b) x) q (subst (λ (x : ℕ). Has (row x) c) p has))
+        | inl (p, q) ↦ na (subst (λ (x : ℕ). ContainsAt (row a) x) q (subst (λ (x : ℕ). ContainsAt (row x) c) p has))
+        | inr (p, q) ↦ nb (subst (λ (x : ℕ). ContainsAt (row b) x) q (subst (λ (x : ℕ). ContainsAt (row x) c) p has))
       ])
 
   -- an end that is no space
@@ -69,7 +69,7 @@ module _ (cap : ℕ → ℕ) (n : ℕ) (row : Rows) (links : List Link) (a b : �
       ])
 
   -- some row names the other end
-  kept_at : (v c : ℕ) → v < n → Has (row v) c → same (a, b) (v, c) ≡ true → some_same (a, b) links ≡ true
+  kept_at : (v c : ℕ) → v < n → ContainsAt (row v) c → same (a, b) (v, c) ≡ true → some_same (a, b) links ≡ true
   kept_at v c lv has e =
       some_same_yes (a, b) links
       (omega (
@@ -82,15 +82,15 @@ module _ (cap : ℕ → ℕ) (n : ℕ) (row : Rows) (links : List Link) (a b : �
         ap bit e,
       ))
 
-  pub kept_first : a < n → Has (row a) b → some_same (a, b) links ≡ true
+  pub kept_first : a < n → ContainsAt (row a) b → some_same (a, b) links ≡ true
   kept_first la has = kept_at a b la has (same_self (a, b))
 
-  pub kept_second : b < n → Has (row b) a → some_same (a, b) links ≡ true
+  pub kept_second : b < n → ContainsAt (row b) a → some_same (a, b) links ≡ true
   kept_second lb has = kept_at b a lb has (same_symmetric (a, b) b a ∙ same_self (a, b))
 
   -- a test that tells whether one of the two rows names the other end tells whether the link is kept
   pub told
-      : a < n → b < n → (ok : Bool) → (ok ≡ true → Has (row a) b ⊎ Has (row b) a) → (ok ≡ false → (Has (row a) b → ⊥) × (Has (row b) a → ⊥))
+      : a < n → b < n → (ok : Bool) → (ok ≡ true → ContainsAt (row a) b ⊎ ContainsAt (row b) a) → (ok ≡ false → (ContainsAt (row a) b → ⊥) × (ContainsAt (row b) a → ⊥))
       → ok ≡ some_same (a, b) links
   told la lb ok some none =
       elim (cases_Bool ok) [
@@ -99,6 +99,6 @@ module _ (cap : ℕ → ℕ) (n : ℕ) (row : Rows) (links : List Link) (a b : �
       ]
 
 -- what was put into a row is there
-pub put_here : (n u v : ℕ) (row row' : Rows) → Put n u v row row' → Has (row' u) v
+pub put_here : (n u v : ℕ) (row row' : Rows) → Put n u v row row' → ContainsAt (row' u) v
 put_here n u v row row' p =
     count_has v (row' u) (omega (arith, p.here (λ x. eqb x v), sum_by-cons (λ x. bit (eqb x v)) v (row u), ap bit (eq-eqb v v refl)))

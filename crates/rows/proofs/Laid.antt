@@ -1,6 +1,6 @@
 -- A link laid in rows of a table, and rows that keep none.
 use Rattle.std.proofs.Common.{◌≡◌, ℕ, ◌+◌, ◌*◌, ◌<◌, ◌≤◌, ◌⊎◌, List, [], ◌∷◌, length, get_or, sym, ap, ◌∙◌, subst, inl, inr, mul-le-mul_right, arith}
-use Rattle.std.specs.List.{ContainsAt as Has}
+use Rattle.std.specs.List.{ContainsAt}
 use Rattle.std.proofs.lemmas.List.Sums.{sum_by-cons}
 use Rattle.maps.specs.Density.{Crowded}
 use Rattle.maps.specs.Links.{Link}
@@ -71,7 +71,7 @@ pub empty_keeps : (n k : ℕ) (t : List ℕ) → n * k ≤ length t → ((i : �
 empty_keeps n k t long h s =
     relinked (λ _. k) n (table_rows k t) (cells (table_rows k t) n) [] (own n k t s) (λ p _. no_cells p (table_rows k t) n (λ v c lv has _. none v c lv has))
   where
-    none : (v c : ℕ) → v < n → Has (table_rows k t v) c → ⊥
+    none : (v c : ℕ) → v < n → ContainsAt (table_rows k t v) c → ⊥
     none v c lv has =
         let (j, lj, q) = row_cell k t v c (row_in n k (length t) v long lv) has in
         row_some k t v c has (sym q ∙ h (v * k + j) (omega (arith, mul-le-mul_right k lv)))

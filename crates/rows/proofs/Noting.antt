@@ -1,6 +1,6 @@
 -- One space noted, in lists.
 use Rattle.std.proofs.Common.{◌≡◌, ℕ, ◌+◌, ◌<◌, ◌≤◌, true, false, cond, ltb, ◌⊎◌, List, length, set, sym, ap, ◌∙◌, subst, arith}
-use Rattle.std.specs.List.{ContainsAt as Has}
+use Rattle.std.specs.List.{ContainsAt}
 use Rattle.std.proofs.lemmas.List.{get_or-set_same, get_or-set_other}
 use Rattle.std.proofs.lemmas.Bool.{cond-true, lt-ltb}
 use Rattle.crowding.specs.Orientation.{Rows}
@@ -31,7 +31,7 @@ module _
 
     module _
         (q' pr' tn' : List ℕ) (p : ℕ) (q_long : n ≤ length q) (pr_long : n ≤ length pr) (tn_long : n ≤ length tn)
-        (eq : q' ≡ set q tail x) (epr : pr' ≡ set pr x p) (etn : tn' ≡ set tn x tail) (why : (tail < 2) ⊎ ((among n m p ≡ true) × Has (row p) x)) where
+        (eq : q' ≡ set q tail x) (epr : pr' ≡ set pr x p) (etn : tn' ≡ set tn x tail) (why : (tail < 2) ⊎ ((among n m p ≡ true) × ContainsAt (row p) x)) where
       pub noted_search : Search n row (among n m') (nth q') (nth pr') (nth tn') (tail + 1)
       noted_search =
           search_more n row (among n m) (among n m') (nth q) (nth q') (nth pr) (nth pr') (nth tn) (nth tn') tail x p s x_in fresh

@@ -1,6 +1,6 @@
 -- The reading rule on rows that are filled first.
 use Rattle.std.proofs.Common.{◌≡◌, ℕ, suc, ◌+◌, ◌*◌, ◌<◌, ◌≤◌, min, max, true, false, ◌||◌, eqb, ◌⊎◌, List, [], ◌∷◌, length, get_or, drop, Decides, filter, sym, refl, ap, ◌∙◌, subst, inl, inr, arith}
-use Rattle.std.specs.List.{ContainsAt as Has}
+use Rattle.std.specs.List.{ContainsAt}
 use Rattle.std.proofs.lemmas.List.{get_or-take, get_or-drop, length-take}
 use Rattle.std.proofs.lemmas.Bool.{cases_Bool, cases_lt, eqb-true, or_cases, or_parts}
 use Rattle.std.proofs.lemmas.Bool.Decides.{Decides-by_or, Decides-eqb, not_from_Decides}
@@ -43,27 +43,27 @@ row_first k t v long h i j l lj e =
     at : (x : ℕ) → x < k → get_or (row k t v) x 0 ≡ cell k t v x
     at x lx = get_or-take k (drop (v * k) t) x 0 lx ∙ get_or-drop (v * k) t x 0
 
-names_decides : (c : ℕ) (xs : List ℕ) → Decides (names c xs) (Has xs c)
+names_decides : (c : ℕ) (xs : List ℕ) → Decides (names c xs) (ContainsAt xs c)
 names_decides c xs = Decides-by_or (λ y. eqb y c) (λ y. y ≡ c) (names c) (λ y. Decides-eqb y c) refl (λ _ _. refl) xs
 
 module _ (n k : ℕ) (t : List ℕ) (s : Sound n k t) where
-  read_decides : (v c : ℕ) → v < n → Decides (names c (filled (row k t v))) (Has (table_rows k t v) c)
+  read_decides : (v c : ℕ) → v < n → Decides (names c (filled (row k t v))) (ContainsAt (table_rows k t v) c)
   read_decides v c lv =
-      subst (λ (xs : List ℕ). Decides (names c xs) (Has (table_rows k t v) c)) (sym (filled_all (row k t v) (row_first k t v (row_in n k (length t) v s.long lv) (s.first v lv))))
+      subst (λ (xs : List ℕ). Decides (names c xs) (ContainsAt (table_rows k t v) c)) (sym (filled_all (row k t v) (row_first k t v (row_in n k (length t) v s.long lv) (s.first v lv))))
       (names_decides c (table_rows k t v))
 
   linked_is : (v w : ℕ) → (reading_rows k t v w).0 ≡ (names w (filled (row k t v)) || names v (filled (row k t w)))
   linked_is v w = elim (cases_Bool (names w (filled (row k t v)))) [ inl e ↦ rw e | inr e ↦ rw e ]
 
   module _ (links : List Link) (o : Oriented (λ _. k) n (table_rows k t) links) where
-    yes_has : (v w : ℕ) → v < n → w < n → (reading_rows k t v w).0 ≡ true → Has (table_rows k t v) w ⊎ Has (table_rows k t w) v
+    yes_has : (v w : ℕ) → v < n → w < n → (reading_rows k t v w).0 ≡ true → ContainsAt (table_rows k t v) w ⊎ ContainsAt (table_rows k t w) v
     yes_has v w lv lw e =
         elim (or_cases (names w (filled (row k t v))) (names v (filled (row k t w))) (sym (linked_is v w) ∙ e)) [
           | inl q ↦ inl ((read_decides v w lv).0 q)
           | inr q ↦ inr ((read_decides w v lw).0 q)
         ]
 
-    no_has : (v w : ℕ) → v < n → w < n → (reading_rows k t v w).0 ≡ false → (Has (table_rows k t v) w → ⊥) × (Has (table_rows k t w) v → ⊥)
+    no_has : (v w : ℕ) → v < n → w < n → (reading_rows k t v w).0 ≡ false → (ContainsAt (table_rows k t v) w → ⊥) × (ContainsAt (table_rows k t w) v → ⊥)
     no_has v w lv lw e =
         let p = or_parts (names w (filled (row k t v))) (names v (filled (row k t w))) (sym (linked_is v w) ∙ e) in
         (not_from_Decides (names w (filled (row k t v))) (read_decides v w lv) p.0, not_from_Decides (names v (filled (row k t w))) (read_decides w v lw) p.1)

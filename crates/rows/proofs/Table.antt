@@ -1,6 +1,6 @@
 -- Writes into a table of rows.
 use Rattle.std.proofs.Common.{◌≡◌, ℕ, ◌+◌, ◌*◌, ◌<◌, ◌≤◌, Bool, true, ◌&&◌, ◌⊎◌, List, length, take, drop, set, count_by, sym, ap, ◌∙◌, inl, inr, mul-le-mul_right, arith}
-use Rattle.std.specs.List.{ContainsAt as Has}
+use Rattle.std.specs.List.{ContainsAt}
 use Rattle.std.proofs.lemmas.List.{length-set, get_or-set_same, get_or-set_other}
 use Rattle.std.proofs.lemmas.List.Sums.{sum_by-cons}
 use Rattle.std.proofs.lemmas.Bool.{cases_eq, cases_lt, cases_order, both_ways}
@@ -139,7 +139,7 @@ free_found k t v r row le h free =
 -- what no cell has, no row has
 pub not_there
     : (k : ℕ) (t : List ℕ) (v c : ℕ) → v * k + k ≤ length t → c < 65535 → ((j : ℕ) → j < k → cell k t v j ≡ c → ⊥)
-    → Has (table_rows k t v) c → ⊥
+    → ContainsAt (table_rows k t v) c → ⊥
 not_there k t v c row some h has = let (j, lj, e) = (row_has k t v c row (λ q. omega arith)).1 has in h j lj e
 
 -- a occupied cell of a row that is occupied first stands before where a search for an empty one stops
@@ -150,8 +150,8 @@ before_empty k t v i r c first li e some le h =
     elim (cases_lt i r) [ inl l ↦ l | inr ge ↦ absurd (omega (arith, first r i ge li (h (omega arith)))) ]
 
 -- what a row has stands in one of its cells, and is not the mark of an empty one
-pub row_some : (k : ℕ) (t : List ℕ) (v c : ℕ) → Has (table_rows k t v) c → c ≡ 65535 → ⊥
+pub row_some : (k : ℕ) (t : List ℕ) (v c : ℕ) → ContainsAt (table_rows k t v) c → c ≡ 65535 → ⊥
 row_some k t v c h e = both_ways (occupied c) (occupied_no c e) (all-has (λ x. occupied x ≡ true) (table_rows k t v) c (kept_by_passes occupied (take k (drop (v * k) t))) h)
 
-pub row_cell : (k : ℕ) (t : List ℕ) (v c : ℕ) → v * k + k ≤ length t → Has (table_rows k t v) c → (j : ℕ) × (j < k) × (cell k t v j ≡ c)
+pub row_cell : (k : ℕ) (t : List ℕ) (v c : ℕ) → v * k + k ≤ length t → ContainsAt (table_rows k t v) c → (j : ℕ) × (j < k) × (cell k t v j ≡ c)
 row_cell k t v c l h = (row_has k t v c l (row_some k t v c h)).1 h

@@ -1,6 +1,6 @@
 -- What a search keeps from step to step, and one cell of a row.
 use Rattle.std.proofs.Common.{◌≡◌, ℕ, ◌+◌, ◌*◌, ◌<◌, ◌≤◌, Bool, true, ◌&&◌, ltb, List, length, get_or, sym, refl, ap, ◌∙◌, subst, inl, inr, arith}
-use Rattle.std.specs.List.{ContainsAt as Has}
+use Rattle.std.specs.List.{ContainsAt}
 use Rattle.std.proofs.lemmas.List.{get_or-map}
 use Rattle.std.proofs.lemmas.Bool.{cases_eq}
 use Rattle.maps.specs.Marks.{marked}
@@ -87,10 +87,10 @@ module _ (m m' : Memory) (a b : List ℕ) (kept : Kept m m' a b) (r : Ready m) (
     pub cell_in : c < m'.n
     cell_in = omega (arith, named, same_cell, kept.n)
 
-    pub cell_why : (t t' : ℕ) → WentOn m m' a b t t' → (among m'.n b v ≡ true) × Has (rows_of m' v) c
+    pub cell_why : (t t' : ℕ) → WentOn m m' a b t t' → (among m'.n b v ≡ true) × ContainsAt (rows_of m' v) c
     cell_why t t' on = (
       ap (λ (n : ℕ). among n b v) kept.n ∙ on.kept v found,
-      subst (λ (w : Rows). Has (w v) c) (sym (rows_kept m m' a b kept)) ((row_has m.k m.table.now v c row_long some).0 j j_in (sym same_cell)),
+      subst (λ (w : Rows). ContainsAt (w v) c) (sym (rows_kept m m' a b kept)) ((row_has m.k m.table.now v c row_long some).0 j j_in (sym same_cell)),
     )
 
     -- the set at the first n, at the cell as it was
@@ -114,7 +114,7 @@ module _
   row' : v * m.k + m.k ≤ length m.table.now
   row' = row_in m.n m.k (length m.table.now) v r.sound.long v_in
 
-  one : (length (rows_of m v) ≡ m.k) × ((c : ℕ) → Has (rows_of m v) c → among m.n b c ≡ true)
+  one : (length (rows_of m v) ≡ m.k) × ((c : ℕ) → ContainsAt (rows_of m v) c → among m.n b c ≡ true)
   one = (
     (row_full m.k m.table.now v row').0 (λ i l. (all i l).0),
     λ c h. let (j, lj, e) = row_cell m.k m.table.now v c row' h in subst (λ (y : ℕ). among m.n b y ≡ true) e (all j lj).1,
@@ -123,7 +123,7 @@ module _
   spread' : Spread m.k (rows_of m) (among m.n b) (queue_of m') (head + 1)
   spread' i l =
       elim (cases_eq i head) [
-        | inl q ↦ subst (λ (y : ℕ). (length (rows_of m y) ≡ m.k) × ((c : ℕ) → Has (rows_of m y) c → among m.n b c ≡ true)) (sym (ap (queue_of m') q ∙ on.order head head_in ∙ here)) one
+        | inl q ↦ subst (λ (y : ℕ). (length (rows_of m y) ≡ m.k) × ((c : ℕ) → ContainsAt (rows_of m y) c → among m.n b c ≡ true)) (sym (ap (queue_of m') q ∙ on.order head head_in ∙ here)) one
         | inr ne ↦ spread_grown m.k (rows_of m) (among m.n a) (among m.n b) (queue_of m) (queue_of m') head t t' (omega arith) on old i (omega arith)
       ]
 

@@ -1,6 +1,6 @@
 -- A search along the rows: what it has found, in which order, and from where. Assumes nothing.
 use Rattle.std.specs.Prelude.{◌≡◌, ℕ, ◌<◌, ◌≤◌, true, ◌&&◌, ◌⊎◌, List, length, nat_lt, slice_index}
-use Rattle.std.specs.List.{ContainsAt as Has}
+use Rattle.std.specs.List.{ContainsAt}
 use Rattle.maps.specs.Marks.{marked}
 use Rattle.maps.specs.Sets.{Spaces, size}
 use Rattle.crowding.specs.Orientation.{Rows}
@@ -19,7 +19,7 @@ pub record Search (n : ℕ) (row : Rows) (found : Spaces) (queue parent turn : �
   pub inside : (x : ℕ) → found x ≡ true → x < n
   pub listed : (i : ℕ) → i < tail → (found (queue i) ≡ true) × (turn (queue i) ≡ i)
   pub noted : (x : ℕ) → found x ≡ true → (turn x < tail) × (queue (turn x) ≡ x)
-  pub back : (x : ℕ) → found x ≡ true → (turn x < 2) ⊎ ((found (parent x) ≡ true) × (turn (parent x) < turn x) × Has (row (parent x)) x)
+  pub back : (x : ℕ) → found x ≡ true → (turn x < 2) ⊎ ((found (parent x) ≡ true) × (turn (parent x) < turn x) × ContainsAt (row (parent x)) x)
 
 -- one search has found all that the other has, in the same order, and perhaps more
 pub record Grown (found found' : Spaces) (queue queue' : ℕ → ℕ) (tail tail' : ℕ) : Type 0 where
@@ -29,4 +29,4 @@ pub record Grown (found found' : Spaces) (queue queue' : ℕ → ℕ) (tail tail
 
 -- the first `head` spaces found have full rows, and all that these name is found
 abbrev pub Spread : ℕ → Rows → Spaces → (ℕ → ℕ) → ℕ → Type 0
-Spread k row found queue head = (i : ℕ) → i < head → (length (row (queue i)) ≡ k) × ((c : ℕ) → Has (row (queue i)) c → found c ≡ true)
+Spread k row found queue head = (i : ℕ) → i < head → (length (row (queue i)) ≡ k) × ((c : ℕ) → ContainsAt (row (queue i)) c → found c ≡ true)

@@ -4,7 +4,7 @@ ghost use Rattle.crowding.specs.Putting.{Put};
 ghost use Rattle.crowding.specs.Table.{table_rows};
 ghost use Rattle.rows.specs.Past.{SameFrom};
 ghost use Rattle.rows.specs.Sound.{FilledFirst, Sound, cell};
-ghost use Rattle.std.specs.List.{ContainsAt as Has};
+ghost use Rattle.std.specs.List.{ContainsAt};
 
 use maps::reading::EMPTY;
 
@@ -64,7 +64,7 @@ pub(crate) fn take_out(table: &mut [u16], k: usize, v: usize, c: u16) -> bool
     requires small { (k ≤ 8) × (v < 4096) }
     requires first { FilledFirst k table.old v }
     requires space { c < 65535 }
-    ensures no { result ≡ false → (table.new ≡ table.old) × (Has (table_rows k table.old v) c → ⊥) }
+    ensures no { result ≡ false → (table.new ≡ table.old) × (ContainsAt (table_rows k table.old v) c → ⊥) }
     ensures yes { result ≡ true → (n : ℕ) → Put n v c (table_rows k table.new) (table_rows k table.old) }
     ensures sound { (n : ℕ) → v < n → Sound n k table.old → Sound n k table.new }
     ensures past { SameFrom (v * k + k) table.old table.new }

@@ -4,7 +4,7 @@ ghost use Rattle.maps.specs.Marks.{marked};
 ghost use Rattle.rows.specs.Search.{among};
 ghost use Rattle.rows.specs.Steps.{Ended, Kept, Searching, Stuck, Trail, Visited, WentOn};
 ghost use Rattle.rows.specs.View.{Ready, queued, rows_of};
-ghost use Rattle.std.specs.List.{ContainsAt as Has};
+ghost use Rattle.std.specs.List.{ContainsAt};
 
 use crate::memory::{Memory, set_queue, set_trail};
 use maps::marks::Marks;
@@ -18,7 +18,7 @@ impl<'a> Memory<'a> {
         requires searching { Searching self.old marks.old.bytes.now tail }
         requires inside { x < self.old.n }
         requires fresh { among self.old.n marks.old.bytes.now x ≡ false }
-        requires why { (tail < 2) ⊎ ((among self.old.n marks.old.bytes.now parent ≡ true) × Has (rows_of self.old parent) x) }
+        requires why { (tail < 2) ⊎ ((among self.old.n marks.old.bytes.now parent ≡ true) × ContainsAt (rows_of self.old parent) x) }
         ensures kept { Kept self.old self.new marks.old.bytes.now marks.new.bytes.now }
         ensures searching { Searching self.new marks.new.bytes.now (tail + 1) }
         ensures grown { WentOn self.old self.new marks.old.bytes.now marks.new.bytes.now tail (tail + 1) }

@@ -1,6 +1,6 @@
 -- The degrees and the first queue; and what the end of the work gives.
 use Rattle.std.proofs.Common.{◌≡◌, ℕ, zero, suc, ◌+◌, ◌-◌, ◌<◌, ◌≤◌, Bool, true, false, ◌&&◌, ◌||◌, eqb, ltb, leb, List, [], ◌∷◌, length, get_or, take, drop, set, sym, refl, ap, ◌∙◌, subst, inl, inr, arith}
-use Rattle.std.specs.List.{AllByRecursion as All}
+use Rattle.std.specs.List.{AllByRecursion}
 use Rattle.std.proofs.lemmas.List.{drop_all, take_all, drop-set, length-set, length-take, length-drop, get_or-set_same, get_or-set_other}
 use Rattle.std.proofs.lemmas.List.Sums.{sum_by_more, count_by-le-length}
 use Rattle.std.proofs.ByRecursion.{All-get_or}
@@ -57,7 +57,7 @@ seeding_none k n order degree long =
       long = long;
       low = omega arith;
       room = omega arith;
-      spaces = subst (λ (xs : List ℕ). All (λ w. w < n) xs) (sym none) tt;
+      spaces = subst (λ (xs : List ℕ). AllByRecursion (λ w. w < n) xs) (sym none) tt;
       seen = λ w l. ap (times w) none ∙ ap bit (sym (and_left _ _ (le-ltb w 0 (omega arith))));
     }
 
@@ -87,7 +87,7 @@ seeding_more {k} {n} {order} {degree} {queued} {v} lv below s =
         long = length-set order (queued - 1) v ∙ s.long;
         low = omega (arith, s.low);
         room = omega (arith, s.room);
-        spaces = subst (λ (xs : List ℕ). All (λ w. w < n) xs) (sym pushed) (lv, s.spaces);
+        spaces = subst (λ (xs : List ℕ). AllByRecursion (λ w. w < n) xs) (sym pushed) (lv, s.spaces);
         seen = λ w l. ap (times w) pushed ∙ elim (cases_eq w v) [
           | inl q ↦ omega (
             arith,
@@ -117,7 +117,7 @@ work_start {k} {n} {links} {order} {degree} {queued} d q =
     }
 
 -- n spaces below n, each at most once, and fewer than n: one is missing
-pub missing_one : (n : ℕ) (xs : List ℕ) → All (λ v. v < n) xs → ((v : ℕ) → v < n → times v xs ≤ 1) → length xs < n → (v : ℕ) × (v < n) × (times v xs ≡ 0)
+pub missing_one : (n : ℕ) (xs : List ℕ) → AllByRecursion (λ v. v < n) xs → ((v : ℕ) → v < n → times v xs ≤ 1) → length xs < n → (v : ℕ) × (v < n) × (times v xs ≡ 0)
 missing_one n xs a h l =
     elim (largest (λ v. eqb (times v xs) 0) (λ v. v) n) [
       | inr (v, lv, e, _) ↦ (v, lv, eqb-true (times v xs) 0 e)
@@ -136,7 +136,7 @@ module _ {k n : ℕ} {links : List Link} {order degree : List ℕ} {at : ℕ} (g
   work_ordering e =
       let whole : drop at order ≡ order = ap (λ (i : ℕ). drop i order) e in
       peeled_ordering k n links g order s.queue.long
-      (all_listed n order s.queue.long (subst (λ (xs : List ℕ). All (λ v. v < n) xs) whole s.queue.spaces) (λ v l. omega (arith, at_most v l, ap (times v) whole)))
+      (all_listed n order s.queue.long (subst (λ (xs : List ℕ). AllByRecursion (λ v. v < n) xs) whole s.queue.spaces) (λ v l. omega (arith, at_most v l, ap (times v) whole)))
       (subst (λ (xs : List ℕ). Peeled k links xs) whole s.peeled)
 
   left : (v : ℕ) → v < n → ltb k (get_or degree v 0) ≡ outside (drop at order) v

@@ -1,6 +1,6 @@
 -- Cells of a survey's table: each link has one, and one colour.
 use Rattle.std.proofs.Common.{◌≡◌, ℕ, zero, suc, ◌+◌, ◌*◌, ◌<◌, ◌≤◌, Bool, true, ◌&&◌, ◌||◌, T, eqb, ◌⊎◌, List, [], ◌∷◌, length, get_or, drop, sym, refl, ap, ◌∙◌, inl, inr, mul-le-mul_right, arith}
-use Rattle.std.specs.List.{AllByRecursion as All}
+use Rattle.std.specs.List.{AllByRecursion}
 use Rattle.std.proofs.lemmas.List.{get_or-take, get_or-drop, length-take, length-drop}
 use Rattle.std.proofs.lemmas.Bool.{cases_eq, cases_Bool, cases_order, eqb-true, eq-eqb, and_from, and_parts, and_right, or_cases, lt-ltb, le-ltb, ltb-true}
 use Rattle.maps.specs.Links.{Link, same}
@@ -22,7 +22,7 @@ pub linked_swap : (links : List Link) (a b : ℕ) → linked links a b ≡ linke
 linked_swap [] a b = refl
 linked_swap (l ∷ links) a b = rw (turn_over (eqb a l.0) (eqb b l.1) (eqb a l.1) (eqb b l.0), linked_swap links a b)
 
-pub linked_ends : (n : ℕ) (links : List Link) → All (λ l. (l.0 < n) × (l.1 < n) × (l.0 ≡ l.1 → ⊥)) links → (a b : ℕ) → linked links a b ≡ true → (a < n) × (b < n) × (a ≡ b → ⊥)
+pub linked_ends : (n : ℕ) (links : List Link) → AllByRecursion (λ l. (l.0 < n) × (l.1 < n) × (l.0 ≡ l.1 → ⊥)) links → (a b : ℕ) → linked links a b ≡ true → (a < n) × (b < n) × (a ≡ b → ⊥)
 linked_ends n [] h a b e = absurd (omega (arith, ap bit e))
 linked_ends n (l ∷ links) h a b e =
     elim (or_cases (same (a, b) l) (linked links a b) e) [

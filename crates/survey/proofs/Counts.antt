@@ -1,6 +1,6 @@
 -- Counts over lists, and sums below n.
 use Rattle.std.proofs.Common.{◌≡◌, ℕ, zero, suc, ◌+◌, ◌<◌, ◌≤◌, Bool, true, false, cond, ◌&&◌, eqb, ◌⊎◌, List, [], ◌∷◌, length, get_or, count_by, sym, refl, ap, ◌∙◌, inl, inr, arith}
-use Rattle.std.specs.List.{AllByRecursion as All}
+use Rattle.std.specs.List.{AllByRecursion}
 use Rattle.std.proofs.lemmas.List.Sums.{sum_by-cons, get_or-le-sum_by}
 use Rattle.std.proofs.lemmas.Bool.{cases_eq, cases_Bool, cases_lt, and_parts, and_from, or_cases, or_left, or_right, eqb-true, eq-eqb, ne_eqb}
 use Rattle.maps.specs.Links.{Link}
@@ -26,7 +26,7 @@ count_yes p x xs e = omega (arith, sum_by-cons (λ y. cond (p y) 1 0) x xs, ap b
 pub count_no : {X : Type 0} (p : X → Bool) (x : X) (xs : List X) → p x ≡ false → count_by p (x ∷ xs) ≡ count_by p xs
 count_no p x xs e = omega (arith, sum_by-cons (λ y. cond (p y) 1 0) x xs, ap bit e)
 
-pub count_le : {X : Type 0} (P : X → Type 0) (p q : X → Bool) (xs : List X) → All P xs → ((x : X) → P x → p x ≡ true → q x ≡ true) → count_by p xs ≤ count_by q xs
+pub count_le : {X : Type 0} (P : X → Type 0) (p q : X → Bool) (xs : List X) → AllByRecursion P xs → ((x : X) → P x → p x ≡ true → q x ≡ true) → count_by p xs ≤ count_by q xs
 count_le P p q [] a h = omega arith
 count_le P p q (x ∷ xs) a h =
     omega (arith, sum_by-cons (λ y. bit (p y)) x xs, sum_by-cons (λ y. bit (q y)) x xs, count_le P p q xs a.1 h, bit_le (p x) (q x) (h x a.0))
@@ -53,7 +53,7 @@ joins_le n v s r h l o e =
           or_right _ _ (and_from _ _ f (h l.0 o.0 (λ i. o.2 (i ∙ sym (eqb-true l.1 v f))) g))
     ]
 
-pub neighbours_le : (n v : ℕ) (links : List Link) → All (λ l. (l.0 < n) × (l.1 < n) × (l.0 ≡ l.1 → ⊥)) links → (s r : Spaces) → ((w : ℕ) → w < n → (w ≡ v → ⊥) → s w ≡ true → r w ≡ true) → neighbours_in links s v ≤ neighbours_in links r v
+pub neighbours_le : (n v : ℕ) (links : List Link) → AllByRecursion (λ l. (l.0 < n) × (l.1 < n) × (l.0 ≡ l.1 → ⊥)) links → (s r : Spaces) → ((w : ℕ) → w < n → (w ≡ v → ⊥) → s w ≡ true → r w ≡ true) → neighbours_in links s v ≤ neighbours_in links r v
 neighbours_le n v links ends s r h = count_le (λ l. (l.0 < n) × (l.1 < n) × (l.0 ≡ l.1 → ⊥)) (joins_in s v) (joins_in r v) links ends (joins_le n v s r h)
 
 -- of the numbers below m that pass, one where f is largest
@@ -146,7 +146,7 @@ total_zero : (n : ℕ) → total (λ _. 0) n ≡ 0
 total_zero zero = refl
 total_zero (suc n) = omega (arith, total_zero n)
 
-pub list_total : (n : ℕ) (xs : List ℕ) → All (λ v. v < n) xs → total (λ v. times v xs) n ≡ length xs
+pub list_total : (n : ℕ) (xs : List ℕ) → AllByRecursion (λ v. v < n) xs → total (λ v. times v xs) n ≡ length xs
 list_total n [] a = total_zero n
 list_total n (x ∷ xs) a =
     omega (

@@ -1,6 +1,6 @@
 -- The places of an order, and the table filled link by link.
 use Rattle.std.proofs.Common.{◌≡◌, ℕ, zero, suc, ◌+◌, ◌*◌, ◌<◌, ◌≤◌, eqb, leb, ◌⊎◌, List, [], ◌∷◌, ◌++◌, length, get_or, take, set, replicate, count_by, sym, refl, ap, ◌∙◌, subst, inl, inr, mul-le-mul_right, arith}
-use Rattle.std.specs.List.{AllByRecursion as All}
+use Rattle.std.specs.List.{AllByRecursion}
 use Rattle.std.proofs.lemmas.List.{take_more, take_all, length-set, length-replicate, get_or-set_same, get_or-set_other, get_or-replicate}
 use Rattle.std.proofs.lemmas.List.Sums.{sum_by-take-le, sum_by-cons}
 use Rattle.std.proofs.ByRecursion.{All-get_or}
@@ -45,7 +45,7 @@ total_ones : (f : ℕ → ℕ) (n : ℕ) → ((v : ℕ) → v < n → f v ≡ 1)
 total_ones f zero h = refl
 total_ones f (suc n) h = omega (arith, total_ones f n (λ v l. h v (omega arith)), h n (omega arith))
 
-none_above : (n : ℕ) (xs : List ℕ) → count_by (leb n) xs ≡ 0 → All (λ v. v < n) xs
+none_above : (n : ℕ) (xs : List ℕ) → count_by (leb n) xs ≡ 0 → AllByRecursion (λ v. v < n) xs
 none_above n [] e = tt
 none_above n (x ∷ xs) e =
     elim (cases_lt x n) [
@@ -54,7 +54,7 @@ none_above n (x ∷ xs) e =
     ]
 
 module _ {k n : ℕ} {links : List Link} {order : List ℕ} (o : Ordering k n links order) where
-  pub ordering_in : All (λ v. v < n) order
+  pub ordering_in : AllByRecursion (λ v. v < n) order
   ordering_in = none_above n order (omega (arith, split_total n order, total_ones (λ v. times v order) n o.once, o.long))
 
   pub at_in : (i : ℕ) → i < n → get_or order i 0 < n

@@ -1,6 +1,6 @@
 -- An order exists exactly where no set is thick.
 use Rattle.std.proofs.Common.{◌≡◌, ℕ, zero, suc, ◌<◌, ◌≤◌, ◌&&◌, leb, ◌⊎◌, List, [], ◌∷◌, length, refl, ap, inl, inr, arith}
-use Rattle.std.specs.List.{AllByRecursion as All}
+use Rattle.std.specs.List.{AllByRecursion}
 use Rattle.std.proofs.lemmas.Bool.{cases_eq, cases_lt, eqb-true, eq-eqb, le-leb, leb-true, and_from, and_parts}
 use Rattle.maps.specs.Links.{Link}
 use Rattle.maps.specs.Density.{neighbours_in, Dense}
@@ -16,7 +16,7 @@ use Rattle.survey.proofs.Build.{missing_one}
 -- the last m spaces of an order
 record Back (k n : ℕ) (links : List Link) (m : ℕ) (placed : List ℕ) : Type 0 where
   long : length placed ≡ m
-  spaces : All (λ v. v < n) placed
+  spaces : AllByRecursion (λ v. v < n) placed
   once : (v : ℕ) → v < n → times v placed ≤ 1
   peeled : Peeled k links placed
 

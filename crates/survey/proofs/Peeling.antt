@@ -1,6 +1,6 @@
 -- Thick sets, peeling, and orders.
 use Rattle.std.proofs.Common.{◌≡◌, ℕ, ◌<◌, ◌≤◌, true, T, List, [], ◌∷◌, length, sym, ap, inl, inr, arith}
-use Rattle.std.specs.List.{AllByRecursion as All}
+use Rattle.std.specs.List.{AllByRecursion}
 use Rattle.std.proofs.lemmas.Bool.{cases_eq, eqb-true, eq-eqb, lt-ltb, ltb-true, cases_order}
 use Rattle.maps.specs.Links.{Link}
 use Rattle.maps.specs.Sets.{Spaces, Inside}
@@ -19,7 +19,7 @@ outside_less : (v w : ℕ) (placed : List ℕ) → outside (v ∷ placed) w ≡ 
 outside_less v w placed e = eq-eqb _ 0 (omega (arith, eqb-true (times w (v ∷ placed)) 0 e, times_more v w placed))
 
 pub peeled_thick :
-    (k n : ℕ) (links : List Link) → GoodLinks n links → (placed : List ℕ) → All (λ v. v < n) placed → Peeled k links placed →
+    (k n : ℕ) (links : List Link) → GoodLinks n links → (placed : List ℕ) → AllByRecursion (λ v. v < n) placed → Peeled k links placed →
     (s : Spaces) → Thick k n links s → Inside n s (outside placed)
 peeled_thick k n links g [] a p s t w l m = tt
 peeled_thick k n links g (v ∷ placed) a p s t w l m =
@@ -41,7 +41,7 @@ pub placing : (k n : ℕ) (links : List Link) → GoodLinks n links → (placed 
 placing k n links g placed p v few = (omega (arith, neighbours_le n v links g.ends (outside (v ∷ placed)) (outside placed) (λ x lx ne o. outside_less v x placed o)), p)
 
 pub all_listed :
-    (n : ℕ) (order : List ℕ) → length order ≡ n → All (λ v. v < n) order → ((v : ℕ) → v < n → times v order ≤ 1) →
+    (n : ℕ) (order : List ℕ) → length order ≡ n → AllByRecursion (λ v. v < n) order → ((v : ℕ) → v < n → times v order ≤ 1) →
     (v : ℕ) → v < n → times v order ≡ 1
 all_listed n order long a h = total_tight (λ v. times v order) n h (omega (arith, list_total n order a))
 

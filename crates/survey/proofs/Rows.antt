@@ -1,7 +1,7 @@
 -- A table filled link by link.
 use Rattle.std.proofs.Common.{◌≡◌, ℕ, zero, suc, ◌+◌, ◌-◌, ◌*◌, ◌<◌, ◌≤◌, Bool, true, false, cond, ◌&&◌, ◌||◌, eqb, ◌⊎◌, List, [], ◌∷◌, ◌++◌, map, length, get_or, take, drop, set, replicate, count_by, filter, sym, refl, ap, ◌∙◌, inl, inr, mul-le-mul_right, arith}
 use lib.Seq.{take-set-lt}
-use Rattle.std.specs.List.{AllByRecursion as All}
+use Rattle.std.specs.List.{AllByRecursion}
 use Rattle.std.proofs.lemmas.List.{drop-set-lt, drop-set-add, take-set-le, length-set, length-append, length-map, length-replicate, map-append, append_assoc, append-nil, set_at, take-replicate, drop-replicate, get_or_append_left, get_or-append_right, get_or-replicate}
 use Rattle.std.proofs.lemmas.List.Sums.{sum_by-cons, sum_by-append, length-filter}
 use Rattle.std.proofs.lemmas.List.Elements.{filter-append}
@@ -152,7 +152,7 @@ count_kept : {X : Type 0} (f q : X → Bool) (xs : List X) → count_by q (filte
 count_kept f q [] = refl
 count_kept f q (x ∷ xs) = omega (arith, count_cond (f x) q x (filter f xs), count_kept f q xs, sum_by-cons (λ c. bit (f c && q c)) x xs)
 
-count_same : {X : Type 0} (P : X → Type 0) (p q : X → Bool) (xs : List X) → All P xs → ((x : X) → P x → p x ≡ q x) → count_by p xs ≡ count_by q xs
+count_same : {X : Type 0} (P : X → Type 0) (p q : X → Bool) (xs : List X) → AllByRecursion P xs → ((x : X) → P x → p x ≡ q x) → count_by p xs ≡ count_by q xs
 count_same P p q [] a h = refl
 count_same P p q (x ∷ xs) a h = omega (arith, sum_by-cons (λ y. bit (p y)) x xs, sum_by-cons (λ y. bit (q y)) x xs, count_same P p q xs a.1 h, ap bit (h x a.0))
 
@@ -206,7 +206,7 @@ module _ (n : ℕ) (links : List Link) (g : GoodLinks n links) (order : List ℕ
       ∙ (ap (λ (m : ℕ). cond (before order v w) m 0) (sym (linked_count links v w (g.once v w)))
       ∙ both (linked links v w) (before order v w)))))
 
-  pub ends_in : All (λ c. c < n) (earlier_ends order v links)
+  pub ends_in : AllByRecursion (λ c. c < n) (earlier_ends order v links)
   ends_in =
       All-map (λ c. c < n) (other v) (filter (joins_in (before order v) v) links)
       (all_kept_by (joins_in (before order v) v) (λ l. other v l < n) links

@@ -1,6 +1,6 @@
 -- Placing one space: its links are walked along their chain.
 use Rattle.std.proofs.Common.{◌≡◌, ℕ, zero, suc, ◌+◌, ◌-◌, ◌<◌, ◌≤◌, Bool, true, false, cond, ◌&&◌, ◌||◌, eqb, leb, List, [], ◌∷◌, length, get_or, drop, set, count_by, sym, refl, ap, ◌∙◌, subst, inl, inr, arith}
-use Rattle.std.specs.List.{AllByRecursion as All}
+use Rattle.std.specs.List.{AllByRecursion}
 use Rattle.std.proofs.lemmas.List.{drop-drop, get_or-drop, drop-set, drop-set-lt, drop_more, drop_all, length-set, length-drop, get_or-set_same, get_or-set_other}
 use Rattle.std.proofs.lemmas.List.Sums.{sum_by-take-drop, sum_by-cons}
 use Rattle.std.proofs.ByRecursion.{All-get_or}
@@ -17,7 +17,7 @@ use Rattle.survey.specs.Walk.{Work, Lower}
 use Rattle.survey.proofs.Counts.{bit, times_yes, times_no, count_no, list_total, total_tight}
 
 -- n spaces are not listed while one is missing
-pub room_left : (n : ℕ) (xs : List ℕ) → All (λ v. v < n) xs → ((v : ℕ) → v < n → times v xs ≤ 1) → (v : ℕ) → v < n → times v xs ≡ 0 → length xs < n
+pub room_left : (n : ℕ) (xs : List ℕ) → AllByRecursion (λ v. v < n) xs → ((v : ℕ) → v < n → times v xs ≤ 1) → (v : ℕ) → v < n → times v xs ≡ 0 → length xs < n
 room_left n xs a h v l e =
     elim (cases_lt (length xs) n) [
       | inl b ↦ b
@@ -142,7 +142,7 @@ module _ (n : ℕ) (links : List Link) (g : GoodLinks n links) where
               long = length-set order (queued - 1) w ∙ s.queue.long;
               wide = wide_on;
               low = omega (arith, s.queue.low);
-              spaces = subst (λ (xs : List ℕ). All (λ x. x < n) xs) (sym pushed) (w_in, s.queue.spaces);
+              spaces = subst (λ (xs : List ℕ). AllByRecursion (λ x. x < n) xs) (sym pushed) (w_in, s.queue.spaces);
               seen = λ x l. ap (times x) pushed ∙ elim (cases_eq x w) [
                 | inl q ↦ rw q (times_yes w (drop queued order) ∙ (ap suc missing ∙ ap bit (sym (le-leb (get_or lowered w 0) k (omega (arith, lowered_here))))))
                 | inr nx ↦ times_no w x (drop queued order) nx ∙ (s.queue.seen x l ∙ ap (λ (d : ℕ). bit (leb d k)) (sym (lowered_else x nx)))
@@ -174,7 +174,7 @@ module _ (n : ℕ) (v w : ℕ) (placed : List ℕ) (none : times v placed ≡ 0)
   out_else : (x : ℕ) → (x ≡ v → ⊥) → outside placed x ≡ outside (v ∷ placed) x
   out_else x ne = ap (λ (m : ℕ). eqb m 0) (sym (times_no v x placed ne))
 
-  taken : (links : List Link) → All (λ l. (l.0 < n) × (l.1 < n) × (l.0 ≡ l.1 → ⊥)) links → neighbours_in links (outside placed) w ≡ neighbours_in links (outside (v ∷ placed)) w + count_by (same (v, w)) links
+  taken : (links : List Link) → AllByRecursion (λ l. (l.0 < n) × (l.1 < n) × (l.0 ≡ l.1 → ⊥)) links → neighbours_in links (outside placed) w ≡ neighbours_in links (outside (v ∷ placed)) w + count_by (same (v, w)) links
   taken [] a = refl
   taken (l ∷ links) a =
       omega (

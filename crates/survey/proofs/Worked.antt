@@ -1,6 +1,6 @@
 -- The surveys worked by hand: each fact is a test that is computed.
 use Rattle.std.proofs.Common.{◌≡◌, ℕ, zero, suc, ◌<◌, Bool, true, false, not, ◌&&◌, ◌||◌, T, eqb, ltb, leb, List, [], ◌∷◌, length, get_or, take, refl, ap, ◌∙◌, inl, inr, arith, lit<, lit≤}
-use Rattle.std.specs.List.{AllByRecursion as All}
+use Rattle.std.specs.List.{AllByRecursion}
 use Rattle.std.proofs.lemmas.Bool.{cases_eq, and_parts, ltb-true, leb-true, eqb-true, eq-eqb}
 use Rattle.maps.specs.Links.{Link, some_same}
 use Rattle.maps.specs.Sets.{Spaces}
@@ -61,7 +61,7 @@ good_by_test n links e q l =
     )
 
 -- a set that is thick, and contains every space that is not peeled off
-largest_by_test : (k n : ℕ) (links : List Link) (s : Spaces) (placed : List ℕ) → AllLinksGood n links → All (λ v. v < n) placed → Peeled k links placed →
+largest_by_test : (k n : ℕ) (links : List Link) (s : Spaces) (placed : List ℕ) → AllLinksGood n links → AllByRecursion (λ v. v < n) placed → Peeled k links placed →
     (v : ℕ) → v < n → T (s v) →
     all_below (λ w. not (s w) || ltb k (neighbours_in links s w)) n ≡ true →
     all_below (λ w. not (outside placed w) || s w) n ≡ true → LargestThick k n links s

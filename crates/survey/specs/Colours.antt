@@ -1,6 +1,6 @@
 -- The colours of the links, and rings of one colour. Assumes nothing.
 use Rattle.std.specs.Prelude.{◌≡◌, ℕ, ◌+◌, ◌-◌, ◌<◌, ◌≤◌, T, ◌⊎◌, List, length, ◌≢◌, slice_index}
-use Rattle.std.specs.List.{AllByRecursion as All}
+use Rattle.std.specs.List.{AllByRecursion}
 use Rattle.maps.specs.Links.{Link}
 use Rattle.survey.specs.Tables.{linked, cell}
 
@@ -17,7 +17,7 @@ OneColour k links table =
 -- at least three different spaces in which each is linked to the next, and the last to the first, by links of one colour
 pub record Ring (k n : ℕ) (links : List Link) (table : List ℕ) (colour : ℕ) (ring : List ℕ) : Type 0 where
   pub three : 3 ≤ length ring
-  pub spaces : All (λ v. v < n) ring
+  pub spaces : AllByRecursion (λ v. v < n) ring
   pub apart : (i j : ℕ) → i < j → j < length ring → slice_index ring i ≢ slice_index ring j
   pub steps : (i : ℕ) → i + 1 < length ring → Coloured k links table colour (slice_index ring i) (slice_index ring (i + 1))
   pub closes : Coloured k links table colour (slice_index ring (length ring - 1)) (slice_index ring 0)

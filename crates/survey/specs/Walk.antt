@@ -1,6 +1,6 @@
 -- How the work stands between the steps of the code. Only contracts of private functions speak of it. Assumes nothing.
 use Rattle.std.specs.Prelude.{◌≡◌, ℕ, ◌+◌, ◌<◌, ◌≤◌, true, cond, ◌&&◌, List, [], ◌∷◌, length, take, drop, count_by, nat_le, nat_lt, slice_index, slice_index_or}
-use Rattle.std.specs.List.{AllByRecursion as All}
+use Rattle.std.specs.List.{AllByRecursion}
 use Rattle.maps.specs.Links.{Link, same}
 use Rattle.maps.specs.Density.{neighbours_in}
 use Rattle.maps.specs.Chains.{touches}
@@ -12,7 +12,7 @@ pub record Queue (k n : ℕ) (order degree : List ℕ) (queued : ℕ) : Type 0 w
   pub long : length order ≡ n
   pub wide : length degree ≡ n
   pub low : queued ≤ n
-  pub spaces : All (λ v. v < n) (drop queued order)
+  pub spaces : AllByRecursion (λ v. v < n) (drop queued order)
   pub seen : (w : ℕ) → w < n → times w (drop queued order) ≡ cond (nat_le (slice_index degree w) k) 1 0
 
 -- From `settled` on the spaces are placed for good, and the degrees are those among the others.
@@ -42,7 +42,7 @@ pub record Seeding (k n : ℕ) (order degree : List ℕ) (queued v : ℕ) : Type
   pub long : length order ≡ n
   pub low : queued ≤ n
   pub room : n ≤ queued + v
-  pub spaces : All (λ w. w < n) (drop queued order)
+  pub spaces : AllByRecursion (λ w. w < n) (drop queued order)
   pub seen : (w : ℕ) → w < n → times w (drop queued order) ≡ cond (nat_lt w v && nat_le (slice_index degree w) k) 1 0
 
 -- The first i links are entered in the table, and `count` has how many cells of each row are filled.

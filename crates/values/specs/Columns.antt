@@ -1,6 +1,6 @@
 -- Columns of whole numbers: their ranges, their sum, and two values taken column by column. Assumes nothing.
 use Rattle.std.specs.Prelude.{◌≡◌, ℕ, ◌≤◌, List, [], ◌∷◌, ℤ, pos, ◌+ℤ◌, Option, MatchOption, unsigned_abs}
-use Rattle.std.specs.List.{AllByRecursion as All}
+use Rattle.std.specs.List.{AllByRecursion}
 
 -- a number within ±most
 abbrev pub Within : ℕ → ℤ → Type 0
@@ -8,15 +8,15 @@ Within most z = unsigned_abs z ≤ most
 
 -- what the columns of every value are
 abbrev pub Held : List ℤ → Type 0
-Held cs = All (Within 1000000000) cs
+Held cs = AllByRecursion (Within 1000000000) cs
 
 -- what the columns of a value that fits are
 abbrev pub Fitting : List ℤ → Type 0
-Fitting cs = All (Within 10000) cs
+Fitting cs = AllByRecursion (Within 10000) cs
 
 -- what the columns of a value that can be read are
 abbrev pub Readable : List ℤ → Type 0
-Readable cs = All (Within 1000000) cs
+Readable cs = AllByRecursion (Within 1000000) cs
 
 abbrev pub total : List ℤ → ℤ
 total [] = pos 0

@@ -3,7 +3,7 @@ use Rattle.std.specs.Prelude.{◌≡◌, ℕ, Bool, true, false, not, ◌&&◌, 
 use Rattle.std.proofs.Common.{sym, ◌∙◌, ap, subst, arith, eq-eqb}
 use Rattle.std.proofs.Math.Bridge.{le_prop}
 use Rattle.std.specs.Fmt.{digits}
-use Rattle.std.specs.List.{AllByRecursion as All}
+use Rattle.std.specs.List.{AllByRecursion}
 use Rattle.values.specs.Columns.{Within, Readable}
 use Rattle.values.specs.Shown.{shown}
 use Rattle.values.specs.Texts.{points_text_of, goods_text}
@@ -63,7 +63,7 @@ both_true true b e = (refl, e)
 both_true false b e = let z : ◌≡◌ {A = ℕ} 0 1 = cc in absurd (omega arith)
 
 all_refused : {V : Type 0} (columns : V → List ℤ) (text : List ℤ → List ℕ) (back : List ℕ → List ℤ) → ((v : V) → back (text (columns v)) ≡ columns v)
-    → (texts : List (List ℕ)) → odd back text texts ≡ true → All (λ bytes. Unwritten columns text bytes × Refused columns text bytes) texts
+    → (texts : List (List ℕ)) → odd back text texts ≡ true → AllByRecursion (λ bytes. Unwritten columns text bytes × Refused columns text bytes) texts
 all_refused columns text back undo [] o = tt
 all_refused columns text back undo (bytes ∷ more) o =
     let p = both_true _ _ o in

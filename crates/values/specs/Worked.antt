@@ -1,6 +1,6 @@
 -- Worked texts: which are points, which are goods, and which are neither. Assumes nothing.
 use Rattle.std.specs.Prelude.{◌≡◌, ℕ, List, [], ◌∷◌, length, pos, negsuc, codes}
-use Rattle.std.specs.List.{AllByRecursion as All}
+use Rattle.std.specs.List.{AllByRecursion}
 use Rattle.values.specs.Texts.{points_text_of, goods_text}
 use Rattle.values.specs.Theorems.{Unwritten, Refused, ReadsAs}
 use Rattle.values.specs.Values.{points_columns, goods_columns}
@@ -20,7 +20,7 @@ no_points =
     ∷ codes " 1" ∷ codes "1 " ∷ codes "1,0,0,0" ∷ []
 
 abbrev pub NoPoints : Type 0
-NoPoints = All (λ bytes. Unwritten points_columns points_text_of bytes × Refused points_columns points_text_of bytes) no_points
+NoPoints = AllByRecursion (λ bytes. Unwritten points_columns points_text_of bytes × Refused points_columns points_text_of bytes) no_points
 
 -- texts that are no goods: three, five, an empty one, and one of four that is no number as we write it
 abbrev pub no_goods : List (List ℕ)
@@ -29,7 +29,7 @@ no_goods =
     ∷ codes "1, 2,3,4" ∷ codes " 1,2,3,4" ∷ []
 
 abbrev pub NoGoods : Type 0
-NoGoods = All (λ bytes. Unwritten goods_columns goods_text bytes × Refused goods_columns goods_text bytes) no_goods
+NoGoods = AllByRecursion (λ bytes. Unwritten goods_columns goods_text bytes × Refused goods_columns goods_text bytes) no_goods
 
 -- the longest text of goods has 47 bytes
 abbrev pub LongestGoods : Type 0

@@ -1,5 +1,5 @@
 use Rattle.std.proofs.Common.{ℕ, ◌+◌, ◌*◌, List, ◌∷◌, length, sym, refl, ◌∙◌, subst, arith}
-use Rattle.std.specs.List.{ContainsAt as Has}
+use Rattle.std.specs.List.{ContainsAt}
 use Rattle.crowding.specs.Orientation.{Oriented}
 use Rattle.crowding.specs.Table.{table_rows}
 use Rattle.crowding.proofs.Moves.{lifted, relinked}
@@ -71,7 +71,7 @@ returns c =
     (λ q. (
       record {
         kept = λ links o. sym (kept_second (λ _. m.k) m.n (table_rows m.k t) links a b o c.requires.inside.1
-            (subst (λ (x : List ℕ). Has (table_rows m.k x b) a) first.0 (put_here m.n b a (table_rows m.k t'') (table_rows m.k t') (e.yes q m.n))));
+            (subst (λ (x : List ℕ). ContainsAt (table_rows m.k x b) a) first.0 (put_here m.n b a (table_rows m.k t'') (table_rows m.k t') (e.yes q m.n))));
       },
       record {
         keeps = λ links o. lifted (λ _. m.k) m.n (table_rows m.k t'') (table_rows m.k t') links b a
@@ -93,7 +93,7 @@ returns c =
     (λ q. (
       record {
         kept = λ links o. sym (not_kept (λ _. m.k) m.n (table_rows m.k t) links a b o first.1
-            (λ h. (e.no q).1 (subst (λ (x : List ℕ). Has (table_rows m.k x b) a) (sym first.0) h)));
+            (λ h. (e.no q).1 (subst (λ (x : List ℕ). ContainsAt (table_rows m.k x b) a) (sym first.0) h)));
       },
       (refl, refl, (e.no q).0 ∙ first.0, refl),
     ))
