@@ -69,7 +69,7 @@ pub record Closes (b : Book) (l : Link) (r : Reply) (b' : Book) : Type 0 where
   pub reply : r ≡ closed_for entry.owner
   pub book : b' ≡ struck_out b l entry.owner
 
--- a look_up past its checks: how many cells were read is the table's matter, at most twice the depth
+-- a look-up past its checks: how many cells were read is the table's matter, at most twice the depth
 pub record LooksUp (b : Book) (l : Link) (r : Reply) (b' : Book) : Type 0 where
   pub cells : ℕ
   pub few : cells ≤ 2 * b.depth

@@ -27,7 +27,7 @@ pub data Call : Type 0 where
   total : (owner : ℕ) → Call
   counts : (owner : ℕ) → Call
 
--- A reply. A refusal has its number, the place of a link in the list if it names one, and the bytes of a set if it reports one. A look_up tells how many cells were read.
+-- A reply. A refusal has its number, the place of a link in the list if it names one, and the bytes of a set if it reports one. A look-up tells how many cells were read.
 pub data Reply : Type 0 where
   refused : (number : ℕ) (place : Option ℕ) (members : Option (List ℕ)) → Reply
   done : Reply

@@ -45,7 +45,7 @@ pub record Law (width : ℕ) (mem : Memory) (calls : List Call) (replies : List 
       → Passed (set_up_row (size_after before).0 k m.spaces (length m.links) mem lent)
       → AllLinksGood m.spaces m.links
       → PrintingDecides k m.spaces m.links r
-  -- a look_up says yes exactly for a link that was laid and not closed since, and reads at most 2k cells
+  -- a look-up says yes exactly for a link that was laid and not closed since, and reads at most 2k cells
   pub look_ups :
       (before since : List Event) (l : Link) (answer : Bool) (cells : ℕ)
       → events calls replies ≡ before ++ ((look_up l, linked answer cells) ∷ since)

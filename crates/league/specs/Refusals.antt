@@ -12,8 +12,8 @@ abbrev pub Enough : ℕ → Type 0
 Enough bytes = 512 ≤ bytes
 
 -- a sheet that began with size bytes can go on in so many
-abbrev pub Goes_on : ℕ → ℕ → Type 0
-Goes_on size bytes = Enough bytes × (bytes ≡ size)
+abbrev pub GoesOn : ℕ → ℕ → Type 0
+GoesOn size bytes = Enough bytes × (bytes ≡ size)
 
 -- what beginning answers: refused exactly where the bytes are too few
 abbrev pub Begins : {A : Type 0} → (A → ℕ) → ℕ → Result A SheetRefusal → Type 0

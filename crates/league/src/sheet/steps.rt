@@ -1,5 +1,5 @@
 ghost use Rattle.std.specs.Prelude.{◌≡◌, ◌≤◌, length, Decides};
-ghost use Rattle.league.specs.Refusals.{Begins, Goes_on, Prints, Step};
+ghost use Rattle.league.specs.Refusals.{Begins, GoesOn, Prints, Step};
 ghost use Rattle.league.specs.Sheets.{foot_text, head_text, owners_text, sheet_text};
 ghost use Rattle.league.specs.Writing.{Wrote};
 
@@ -36,7 +36,7 @@ impl Begun {
         print: &mut [u8],
         standing: u16,
     ) -> Result<Headed, (Begun, SheetRefusal)>
-        ensures { Step self (Goes_on self.size (length print.old)) print.old print.new (λ s. (s.size ≡ self.size) × Wrote print.old 0 (head_text K.capital standing) s.len print.new) result }
+        ensures { Step self (GoesOn self.size (length print.old)) print.old print.new (λ s. (s.size ≡ self.size) × Wrote print.old 0 (head_text K.capital standing) s.len print.new) result }
     {
         if !same_size(self.size, print) {
             return Err((self, SheetRefusal::WrongSize));
@@ -56,7 +56,7 @@ impl Headed {
         print: &mut [u8],
         owners: &[OwnerTotal<K>; 7],
     ) -> Result<Listed, (Headed, SheetRefusal)>
-        ensures { Step self (Goes_on self.size (length print.old)) print.old print.new (λ s. (s.size ≡ self.size) × Wrote print.old self.len (owners_text K.columns K.weigh K.text owners.now) s.len print.new) result }
+        ensures { Step self (GoesOn self.size (length print.old)) print.old print.new (λ s. (s.size ≡ self.size) × Wrote print.old self.len (owners_text K.columns K.weigh K.text owners.now) s.len print.new) result }
     {
         if !same_size(self.size, print) {
             return Err((self, SheetRefusal::WrongSize));
@@ -72,7 +72,7 @@ impl Headed {
 impl Listed {
     // Writes the foot: Z and 7.
     pub fn foot(self, print: &mut [u8]) -> Result<Footed, (Listed, SheetRefusal)>
-        ensures { Step self (Goes_on self.size (length print.old)) print.old print.new (λ s. Wrote print.old self.len foot_text s.written print.new) result }
+        ensures { Step self (GoesOn self.size (length print.old)) print.old print.new (λ s. Wrote print.old self.len foot_text s.written print.new) result }
     {
         if !same_size(self.size, print) {
             return Err((self, SheetRefusal::WrongSize));
