@@ -99,7 +99,7 @@ fn check_lists<M: Map>(
 ) -> Result<(), ListRefusal>
     requires size { TooLarge (M.meaning map.now).spaces (length (M.meaning map.now).links) → ⊥ }
     requires room { TooShort (M.meaning map.now).spaces (length (M.meaning map.now).links) (length links.old) (length head.old) (length next.old) (length marks.old) → ⊥ }
-    ensures { ReadInto (M.meaning map.now) (record { links = links.entry.now; head = head.old; next = next.old; marks = marks.old }) result (record { links = links.exit.now; head = head.new; next = next.new; marks = marks.new }) }
+    ensures { ReadInto (M.meaning map.now) (record { links = links.old; head = head.old; next = next.old; marks = marks.old }) result (record { links = links.new; head = head.new; next = next.new; marks = marks.new }) }
 {
     let n = map.spaces() as usize;
     let m = map.links() as usize;
@@ -121,7 +121,7 @@ pub fn check_links<M: Map>(
     next: &mut [(u16, u16)],
     marks: &mut [u8],
 ) -> Result<(), ListRefusal>
-    ensures { Listed (M.meaning map.now) (record { links = links.entry.now; head = head.old; next = next.old; marks = marks.old }) result (record { links = links.exit.now; head = head.new; next = next.new; marks = marks.new }) }
+    ensures { Listed (M.meaning map.now) (record { links = links.old; head = head.old; next = next.old; marks = marks.old }) result (record { links = links.new; head = head.new; next = next.new; marks = marks.new }) }
 {
     check_room(map.spaces(), map.links(), links, head, next, marks)?;
     check_lists(map, links, head, next, marks)

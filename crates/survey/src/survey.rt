@@ -92,7 +92,7 @@ fn survey_list<M: Map>(
     requires limits { (depth ≤ 8) × (1 ≤ (M.meaning map.now).spaces) × ((M.meaning map.now).spaces ≤ 4096) × (length (M.meaning map.now).links ≤ 32768) }
     requires work { (length links.old ≡ 32768) × (length head.old ≡ 4096) × (length next.old ≡ 32768) × (length degree.old ≡ 4096) }
     requires room { ((M.meaning map.now).spaces ≤ length order.old) × ((M.meaning map.now).spaces * depth ≤ length table.old) × ((M.meaning map.now).spaces ≤ length set.old) × ((M.meaning map.now).spaces ≤ length marks.old) }
-    ensures read_map { ReadMap (M.meaning map.now).spaces depth (M.meaning map.now).links (record { order = order.entry.now; table = table.old; members = set.old; marks = marks.old }) result (record { order = order.exit.now; table = table.new; members = set.new; marks = marks.new }) }
+    ensures read_map { ReadMap (M.meaning map.now).spaces depth (M.meaning map.now).links (record { order = order.old; table = table.old; members = set.old; marks = marks.old }) result (record { order = order.new; table = table.new; members = set.new; marks = marks.new }) }
     ensures cleared { Cleared (M.meaning map.now).spaces marks.old marks.new }
 {
     check_links(map, links, head, next, marks)?;
@@ -120,7 +120,7 @@ pub fn survey<M: Map>(
     set: &mut [u8],
     marks: &mut [u8],
 ) -> Result<(), SurveyRefusal>
-    ensures { Surveyed (M.meaning map.now) depth (record { order = order.entry.now; table = table.old; members = set.old; marks = marks.old }) result (record { order = order.exit.now; table = table.new; members = set.new; marks = marks.new }) }
+    ensures { Surveyed (M.meaning map.now) depth (record { order = order.old; table = table.old; members = set.old; marks = marks.old }) result (record { order = order.new; table = table.new; members = set.new; marks = marks.new }) }
 {
     check_call(
         map.spaces(),
