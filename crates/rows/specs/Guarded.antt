@@ -11,19 +11,20 @@ use Rattle.rows.specs.declared.memory.Memory.{Memory}
 abbrev pub GuardEnough : Memory → List ℕ → Marks → Type 0
 GuardEnough m members marks = (m.n ≤ length members) × (m.n ≡ marks.n) × (m.n ≤ length marks.bytes.now)
 
--- nothing is written
-abbrev pub SetUntouched : Memory → Memory → List ℕ → List ℕ → Type 0
-SetUntouched m m' members members' = (m' ≡ m) × (members' ≡ members)
+-- nothing is written, and no mark is set or taken back
+abbrev pub GuardUntouched : Memory → Memory → List ℕ → List ℕ → Marks → Marks → Type 0
+GuardUntouched m m' members members' marks marks' = (m' ≡ m) × (members' ≡ members) × (marks'.bytes.now ≡ marks.bytes.now)
 
--- laid, or refused for the first of these reasons: short memory, an end that is no space, equal ends, crowded
-abbrev pub LayGuardedAnswer : Memory → Memory → ℕ → ℕ → List ℕ → List ℕ → Marks → Result (Unit {0}) Refusal → Type 0
-LayGuardedAnswer m m' a b members members' marks (Ok _) =
+-- Laid, or refused for the first of these reasons: short memory, an end that is no space, equal ends, crowded. Once it is past the first three, the marks of the spaces are free.
+abbrev pub LayGuardedAnswer : Memory → Memory → ℕ → ℕ → List ℕ → List ℕ → Marks → Marks → Result (Unit {0}) Refusal → Type 0
+LayGuardedAnswer m m' a b members members' marks marks' (Ok _) =
     GuardEnough m members marks × InsideEnds m a b × (a ≢ b) × Laid m m' a b × SameShape m m' × (members' ≡ members)
-LayGuardedAnswer m m' a b members members' marks (Err ShortMemory) = (GuardEnough m members marks → ⊥) × SetUntouched m m' members members'
-LayGuardedAnswer m m' a b members members' marks (Err EndOutOfRange) =
-    GuardEnough m members marks × OutsideEnd m a b × SetUntouched m m' members members'
-LayGuardedAnswer m m' a b members members' marks (Err EqualEnds) =
-    GuardEnough m members marks × InsideEnds m a b × (a ≡ b) × SetUntouched m m' members members'
-LayGuardedAnswer m m' a b members members' marks (Err Crowded) =
+LayGuardedAnswer m m' a b members members' marks marks' (Err ShortMemory) =
+    (GuardEnough m members marks → ⊥) × GuardUntouched m m' members members' marks marks'
+LayGuardedAnswer m m' a b members members' marks marks' (Err EndOutOfRange) =
+    GuardEnough m members marks × OutsideEnd m a b × GuardUntouched m m' members members' marks marks'
+LayGuardedAnswer m m' a b members members' marks marks' (Err EqualEnds) =
+    GuardEnough m members marks × InsideEnds m a b × (a ≡ b) × GuardUntouched m m' members members' marks marks'
+LayGuardedAnswer m m' a b members members' marks marks' (Err Crowded) =
     GuardEnough m members marks × InsideEnds m a b × (a ≢ b)
     × (m'.table.now ≡ m.table.now) × SameShape m m' × Reported m a b members members'

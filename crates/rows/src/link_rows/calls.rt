@@ -96,7 +96,7 @@ impl<'a> LinkRows<'a> {
         }
     }
 
-    // Lays the link of `a` and `b`. If it is crowded, `members` gets the smallest set that the link would overfill. The marks serve a search; what they hold means nothing, before and after.
+    // Lays the link of `a` and `b`. If it is crowded, `members` gets the smallest set that the link would overfill. The marks serve a search: what they hold means nothing before, and is free afterwards unless nothing was written.
     pub fn lay_guarded(
         &mut self,
         a: u16,
@@ -104,7 +104,7 @@ impl<'a> LinkRows<'a> {
         members: &mut [u8],
         marks: &mut Marks<'_>,
     ) -> Result<(), Refusal>
-        ensures answer { LayGuardedAnswer self.old.memory self.new.memory a b members.old members.new marks.old result }
+        ensures answer { LayGuardedAnswer self.old.memory self.new.memory a b members.old members.new marks.old marks.new result }
         ensures marks { SameFrom self.old.memory.n marks.old.bytes.now marks.new.bytes.now }
         ensures n { marks.new.n ≡ marks.old.n }
         ensures same { marks.new.bytes.ghost_name ≡ marks.old.bytes.ghost_name }
