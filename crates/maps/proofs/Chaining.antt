@@ -82,3 +82,9 @@ after_of n links head next h c v l t =
     cond_both (eqb (get_or links c (0, 0)).0 v) (get_or next c (0, 0)).0 (get_or next c (0, 0)).1 (λ p. Next links v (c + 1) p)
     (λ e. subst (λ (x : ℕ). Next links x (c + 1) (get_or next c (0, 0)).0) (eqb-true (get_or links c (0, 0)).0 v e) (h.of_first c (omega arith) l))
     (λ e. subst (λ (x : ℕ). Next links x (c + 1) (get_or next c (0, 0)).1) (eqb-true (get_or links c (0, 0)).1 v (elim (or_cases (eqb (get_or links c (0, 0)).0 v) (eqb (get_or links c (0, 0)).1 v) t) [ inl q ↦ absurd (both_ways _ e q) | inr q ↦ q ])) (h.of_second c (omega arith) l))
+
+-- a step of a walk round v, from what the code reads at the link
+pub next_of : {n at v p : ℕ} {links : List Link} {head : List ℕ} {next : List Link} {l : Link} → Chains n links head next 0 → (at < length links → touches v (get_or links at (0, 0)) ≡ true) →
+    at < length links → ((d : Link) → l ≡ get_or links at d) → p ≡ cond (eqb l.0 v) (get_or next at (0, 0)).0 (get_or next at (0, 0)).1 → Next links v (at + 1) p
+next_of {n} {at} {v} {p} {links} {head} {next} {l} h on lt is e =
+    subst (λ (q : ℕ). Next links v (at + 1) q) (sym (e ∙ ap (λ (x : Link). cond (eqb x.0 v) (get_or next at (0, 0)).0 (get_or next at (0, 0)).1) (is (0, 0)))) (after_of n links head next h at v lt (on lt))

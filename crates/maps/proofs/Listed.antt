@@ -27,16 +27,14 @@ pub chains_at : {m n : ℕ} {links : List Link} {head : List ℕ} {next : List L
 chains_at {m} {n} {links} {head} {next} e h = subst (λ (x : ℕ). Chains x links head next 0) e h
 
 module _ {n : ℕ} {list copy : List Link} {f : ℕ} (same_length : length copy ≡ length list) (s : SoundTo n list copy f) where
-  pub copied_part : take (f - 0) copy ≡ take f list
+  pub copied_part : take f copy ≡ take f list
   copied_part =
-      let e : f - 0 ≡ f = omega arith in
       let long : length (take f copy) ≡ length (take f list) = omega (arith, length-take f copy, length-take f list) in
-      ap (λ (i : ℕ). take i copy) e
-      ∙ ext_get_or (0, 0) (take f copy) (take f list) long (λ i l.
+      ext_get_or (0, 0) (take f copy) (take f list) long (λ i l.
       let lt : i < f = omega (arith, length-take f copy) in
       get_or-take f copy i (0, 0) lt ∙ (s.copied i lt ∙ sym (get_or-take f list i (0, 0) lt)))
 
-  pub part_length : length (take (f - 0) copy) ≡ f
+  pub part_length : length (take f copy) ≡ f
   part_length = omega (arith, ap length copied_part, length-take f list, s.within)
 
   part_ends : EndsGood n (take f list)
@@ -45,11 +43,11 @@ module _ {n : ℕ} {list copy : List Link} {f : ℕ} (same_length : length copy 
       let lt : i < f = omega (arith, length-take f list) in
       subst (λ (l : Link). (l.0 < n) × (l.1 < n) × (l.0 ≡ l.1 → ⊥)) (sym (get_or-take f list i (0, 0) lt)) (s.sound i lt))
 
-  pub copied_ends : {m : ℕ} → m ≡ n → EndsGood m (take (f - 0) copy)
-  copied_ends {m} e = subst (λ (x : ℕ). EndsGood x (take (f - 0) copy)) (sym e) (subst (λ (ls : List Link). EndsGood n ls) (sym copied_part) part_ends)
+  pub copied_ends : {m : ℕ} → m ≡ n → EndsGood m (take f copy)
+  copied_ends {m} e = subst (λ (x : ℕ). EndsGood x (take f copy)) (sym e) (subst (λ (ls : List Link). EndsGood n ls) (sym copied_part) part_ends)
 
-  module _ {first : ℕ} (found : FirstRepeat (take (f - 0) copy) first) where
-    in_list : (q : ℕ) → q < f → some_same (get_or (take (f - 0) copy) q (0, 0)) (take q (take (f - 0) copy)) ≡ some_same (get_or list q (0, 0)) (take q list)
+  module _ {first : ℕ} (found : FirstRepeat (take f copy) first) where
+    in_list : (q : ℕ) → q < f → some_same (get_or (take f copy) q (0, 0)) (take q (take f copy)) ≡ some_same (get_or list q (0, 0)) (take q list)
     in_list q l =
         ap (λ (ls : List Link). some_same (get_or ls q (0, 0)) (take q ls)) copied_part
         ∙ (ap (λ (x : Link). some_same x (take q (take f list))) (get_or-take f list q (0, 0) l)
@@ -86,14 +84,13 @@ module _ {n : ℕ} {list copy : List Link} {f : ℕ} (same_length : length copy 
           | inr (a, inr (b, inr (c, d))) ↦ absurd d
         ]
 
-    pub all_good : {head : List ℕ} {next rest : List Link} → f ≤ first → length list ≤ f → rest ≡ [] → Chains n (take (f - 0) copy) head next 0 → ReadList n list copy head (next ++ rest) (Ok tt)
+    pub all_good : {head : List ℕ} {next rest : List Link} → f ≤ first → length list ≤ f → rest ≡ [] → Chains n (take f copy) head next 0 → ReadList n list copy head (next ++ rest) (Ok tt)
     all_good {head} {next} {rest} l k none ch =
         let whole : take f list ≡ list = take_all f list k in
-        let e : f - 0 ≡ f = omega arith in
         inr (
           (λ q j. passes_before q (omega arith) (omega arith)),
           tt,
-          sym (take_all (f - 0) copy (omega arith)) ∙ (copied_part ∙ whole),
+          sym (take_all f copy (omega arith)) ∙ (copied_part ∙ whole),
           subst (λ (ns : List Link). Chains n list head ns 0) (sym (ap (λ (r : List Link). next ++ r) none ∙ append-nil next)) (subst (λ (ls : List Link). Chains n ls head next 0) (copied_part ∙ whole) ch),
         )
 
@@ -119,17 +116,17 @@ cleared_again n n₁ n₂ n₃ a b c d e₁ e₂ e₃ p q r =
     }
 
 module _ (map : Meaning) (lent : Lent) (r : Result (Unit {0}) ListRefusal) (n m : ℕ) (links : List Link) (head : List ℕ) (next : List Link) (marks : List ℕ) (en : n ≡ map.spaces) (em : m ≡ length map.links) where
-  pub listed : length links ≡ m - 0 → length head ≡ n - 0 → length next ≡ m - 0 → ReadList map.spaces map.links links head next r → Cleared map.spaces lent.marks marks →
-      ReadInto map lent r (record { links = links ++ drop (m - 0) lent.links; head = head ++ drop (n - 0) lent.head; next = next ++ drop (m - 0) lent.next; marks = marks })
+  pub listed : length links ≡ m → length head ≡ n → length next ≡ m → ReadList map.spaces map.links links head next r → Cleared map.spaces lent.marks marks →
+      ReadInto map lent r (record { links = links ++ drop m lent.links; head = head ++ drop n lent.head; next = next ++ drop m lent.next; marks = marks })
   listed ll lh ln read clear =
       record {
-        read = subst (λ (x : List Link). ReadList map.spaces map.links x (take map.spaces (head ++ drop (n - 0) lent.head)) (take (length map.links) (next ++ drop (m - 0) lent.next)) r) (sym (take_at links (drop (m - 0) lent.links) (length map.links) (omega arith)))
-            (subst (λ (x : List ℕ). ReadList map.spaces map.links links x (take (length map.links) (next ++ drop (m - 0) lent.next)) r) (sym (take_at head (drop (n - 0) lent.head) map.spaces (omega arith)))
-            (subst (λ (x : List Link). ReadList map.spaces map.links links head x r) (sym (take_at next (drop (m - 0) lent.next) (length map.links) (omega arith))) read));
+        read = subst (λ (x : List Link). ReadList map.spaces map.links x (take map.spaces (head ++ drop n lent.head)) (take (length map.links) (next ++ drop m lent.next)) r) (sym (take_at links (drop m lent.links) (length map.links) (omega arith)))
+            (subst (λ (x : List ℕ). ReadList map.spaces map.links links x (take (length map.links) (next ++ drop m lent.next)) r) (sym (take_at head (drop n lent.head) map.spaces (omega arith)))
+            (subst (λ (x : List Link). ReadList map.spaces map.links links head x r) (sym (take_at next (drop m lent.next) (length map.links) (omega arith))) read));
         kept = record {
-          links = drop-append-drop (m - 0) lent.links links (length map.links) (omega arith) ll;
-          head = drop-append-drop (n - 0) lent.head head map.spaces (omega arith) lh;
-          next = drop-append-drop (m - 0) lent.next next (length map.links) (omega arith) ln;
+          links = drop-append-drop m lent.links links (length map.links) (omega arith) ll;
+          head = drop-append-drop n lent.head head map.spaces (omega arith) lh;
+          next = drop-append-drop m lent.next next (length map.links) (omega arith) ln;
           marks = clear;
         };
       }

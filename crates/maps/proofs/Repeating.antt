@@ -1,15 +1,18 @@
 -- The search for a repeated link: the walks along the chain of one space.
-use Rattle.std.proofs.Common.{◌≡◌, ℕ, zero, suc, ◌+◌, ◌-◌, ◌<◌, ◌≤◌, min, Bool, true, false, cond, not, ◌&&◌, ◌||◌, eqb, ltb, List, [], ◌∷◌, ◌++◌, length, get_or, take, drop, set, sym, refl, ap, ◌∙◌, subst, inl, inr, arith}
+use Rattle.std.proofs.Common.{◌≡◌, ℕ, zero, suc, ◌+◌, ◌-◌, ◌<◌, ◌≤◌, min, Bool, true, false, cond, not, ◌&&◌, ◌||◌, eqb, ltb, List, [], ◌∷◌, ◌++◌, length, get_or, take, drop, set, Option, sym, refl, ap, ◌∙◌, subst, inl, inr, arith}
 use Rattle.std.proofs.lemmas.List.{take_more, drop_more, drop_all, length-set, get_or-set_same, get_or-set_other}
-use Rattle.std.proofs.lemmas.Bool.{cases_eq, cases_Bool, cases_lt, eq-eqb, ne_eqb, lt-ltb, or_left, both_ways}
+use Rattle.std.proofs.lemmas.Bool.{cases_eq, cases_Bool, cases_lt, eq-eqb, ne_eqb, lt-ltb, le-ltb, or_left, both_ways}
 use Rattle.std.proofs.lemmas.Bool.Decides.{nat_tests}
+use Rattle.maps.specs.declared.chains.Chained.{Chained}
+use Rattle.maps.specs.declared.marks.Marks.{Marks}
 use Rattle.maps.specs.Links.{Link, same, some_same}
 use Rattle.maps.specs.LinkChecks.{EndsGood}
-use Rattle.maps.specs.Chains.{touches, other, Next, Chains}
+use Rattle.maps.specs.Chains.{touches, other, Next, StepsRound}
 use Rattle.maps.specs.Marks.{marked}
-use Rattle.maps.specs.Repeats.{SamePast, OnlyMet, NoneMet, FirstRepeatOf, FirstRepeat}
+use Rattle.maps.specs.Repeats.{SamePast, OnlyMet, NoneMet, FirstRepeatOf, NoRepeatOf, FirstRepeat}
+use Rattle.maps.specs.Searching.{Used}
 use Rattle.maps.proofs.Walks.{FirstRepeatBelow, Marking, Unmarking}
-use Rattle.maps.proofs.Chaining.{ends_at, after_of}
+use Rattle.maps.proofs.Chaining.{ends_at}
 
 -- a link that touches v joins it to its other end
 pub same_of : (c d v x : ℕ) → (eqb c v || eqb d v) ≡ true → ((eqb v c && eqb x d) || (eqb v d && eqb x c)) ≡ eqb x (cond (eqb c v) d c)
@@ -102,25 +105,23 @@ past_on n before marks w b l h =
 test_in : (w n : ℕ) (b r : Bool) → w < n → r ≡ (ltb w n && b) → b ≡ r
 test_in w n b r l e = let t : ltb w n ≡ true = lt-ltb w n l in grind (arith, nat_tests)
 
-module _ {n : ℕ} {links : List Link} {head : List ℕ} {next : List Link} (v : ℕ) (before : List ℕ) (ends : EndsGood n links) (ch : Chains n links head next 0) where
-  pub marking_start : v < n → NoneMet n before → Marking n links v (get_or head v 0) before before
-  marking_start lv none =
-      let h = ch.of_space v lv in
+module _ {n : ℕ} {links : List Link} (v : ℕ) (ends : EndsGood n links) where
+  pub marking_start : {p : ℕ} {marks : List ℕ} → Next links v 0 p → NoneMet n marks → Marking n links v p marks
+  marking_start {p} {marks} h none =
       record {
         high = h.high;
         on = h.here;
-        met = λ w lw. none w lw ∙ sym (next_some links v w 0 (get_or head v 0) h).0;
+        met = λ w lw. none w lw ∙ sym (next_some links v w 0 p h).0;
         clean = λ q lq t. absurd (both_ways _ (h.quiet q (omega arith) lq) t);
-        past = record { len = refl; high = λ q _. refl };
       }
 
-  pub marking_only : {p : ℕ} {marks : List ℕ} → Marking n links v p before marks → OnlyMet n links v marks
+  pub marking_only : {p : ℕ} {marks : List ℕ} → Marking n links v p marks → OnlyMet n links v marks
   marking_only {p} {marks} s w lw t = some_part (v, w) links p (sym (s.met w lw) ∙ t)
 
-  pub marking_first : {p : ℕ} {marks : List ℕ} → length links ≤ p → Marking n links v p before marks → FirstRepeatOf links v p
-  marking_first {p} {marks} l s = record { high = s.high; before = s.clean; here = λ z. absurd (omega arith) }
+  pub marking_first : {p : ℕ} {marks : List ℕ} → length links ≤ p → Marking n links v p marks → NoRepeatOf links v
+  marking_first {p} {marks} l s q lq t = s.clean q (omega arith) t
 
-  module _ {p w m : ℕ} {marks : List ℕ} (s : Marking n links v p before marks) (l : p < length links) (is : w ≡ other v (get_or links p (0, 0))) (size : m ≡ n) where
+  module _ {p w m : ℕ} {marks : List ℕ} (s : Marking n links v p marks) (l : p < length links) (is : w ≡ other v (get_or links p (0, 0))) (size : m ≡ n) where
     w_in : w < n
     w_in = omega (arith, other_in n links p v ends l)
 
@@ -132,12 +133,11 @@ module _ {n : ℕ} {links : List Link} {head : List ℕ} {next : List Link} (v :
         ∙ test_in w m (marked marks w) r (omega (arith, w_in)) e))
 
     pub marking_found : (r : Bool) → r ≡ (ltb w m && marked marks w) → r ≡ true → FirstRepeatOf links v p
-    marking_found r e found = record { high = s.high; before = s.clean; here = λ _. met_here r e ∙ found }
+    marking_found r e found = record { within = l; before = s.clean; here = met_here r e ∙ found }
 
     pub marking_step : (r : Bool) → r ≡ (ltb w m && marked marks w) → r ≡ false → n ≤ length marks → {marks' : List ℕ} → marks' ≡ cond (ltb w m) (set marks w 1) marks →
-        {p' : ℕ} → p' ≡ cond (eqb (get_or links p (0, 0)).0 v) (get_or next p (0, 0)).0 (get_or next p (0, 0)).1 → Marking n links v p' before marks'
-    marking_step r e unmet long {marks'} set_is {p'} p-is =
-        let h : Next links v (p + 1) p' = subst (λ (q : ℕ). Next links v (p + 1) q) (sym p-is) (after_of n links head next ch p v l (s.on l)) in
+        {p' : ℕ} → Next links v (p + 1) p' → Marking n links v p' marks'
+    marking_step r e unmet long {marks'} set_is {p'} h =
         let new : marks' ≡ set marks w 1 = written m marks marks' w 1 (omega (arith, w_in)) set_is in
         record {
           high = h.high;
@@ -154,7 +154,6 @@ module _ {n : ℕ} {links : List Link} {head : List ℕ} {next : List Link} (v :
               | inr ne ↦ absurd (both_ways _ (h.quiet q (omega arith) lq) t)
             ]
           ];
-          past = subst (λ (ms : List ℕ). SamePast n before ms) (sym new) (past_on n before marks w 1 w_in s.past);
         }
       where
         now : (x : ℕ) → some_same (v, x) (take (p + 1) links) ≡ (some_same (v, x) (take p links) || eqb x w)
@@ -165,22 +164,19 @@ module _ {n : ℕ} {links : List Link} {head : List ℕ} {next : List Link} (v :
 
 -- the walk that takes the marks back
 
-module _ {n : ℕ} {links : List Link} {head : List ℕ} {next : List Link} (v : ℕ) (before : List ℕ) (ends : EndsGood n links) (ch : Chains n links head next 0) where
-  pub unmarking_start : v < n → OnlyMet n links v before → Unmarking n links v (get_or head v 0) before before
-  unmarking_start lv met =
-      let h = ch.of_space v lv in
+module _ {n : ℕ} {links : List Link} (v : ℕ) (ends : EndsGood n links) where
+  pub unmarking_start : {p : ℕ} {marks : List ℕ} → Next links v 0 p → OnlyMet n links v marks → Unmarking n links v p marks
+  unmarking_start {p} {marks} h met =
       record {
         high = h.high;
         on = h.here;
-        left = λ w lw t. sym (next_some links v w 0 (get_or head v 0) h).1 ∙ met w lw t;
-        past = record { len = refl; high = λ q _. refl };
+        left = λ w lw t. sym (next_some links v w 0 p h).1 ∙ met w lw t;
       }
 
-  pub unmarking_step : {p w m : ℕ} {marks : List ℕ} → Unmarking n links v p before marks → p < length links → w ≡ other v (get_or links p (0, 0)) → m ≡ n → n ≤ length marks →
+  pub unmarking_step : {p w m : ℕ} {marks : List ℕ} → Unmarking n links v p marks → p < length links → w ≡ other v (get_or links p (0, 0)) → m ≡ n → n ≤ length marks →
       {marks' : List ℕ} → marks' ≡ cond (ltb w m) (set marks w 0) marks →
-      {p' : ℕ} → p' ≡ cond (eqb (get_or links p (0, 0)).0 v) (get_or next p (0, 0)).0 (get_or next p (0, 0)).1 → Unmarking n links v p' before marks'
-  unmarking_step {p} {w} {m} {marks} s l is size long {marks'} set_is {p'} p-is =
-      let h : Next links v (p + 1) p' = subst (λ (q : ℕ). Next links v (p + 1) q) (sym p-is) (after_of n links head next ch p v l (s.on l)) in
+      {p' : ℕ} → Next links v (p + 1) p' → Unmarking n links v p' marks'
+  unmarking_step {p} {w} {m} {marks} s l is size long {marks'} set_is {p'} h =
       let w_in : w < n = omega (arith, other_in n links p v ends l) in
       let new : marks' ≡ set marks w 0 = written m marks marks' w 0 (omega arith) set_is in
       record {
@@ -194,48 +190,75 @@ module _ {n : ℕ} {links : List Link} {head : List ℕ} {next : List Link} (v :
               ∙ (sym (some_drop (v, x) links p l)
               ∙ s.left x lx (sym (ap (λ (ms : List ℕ). marked ms x) new ∙ marked_else marks w 0 x ne) ∙ t))
         ];
-        past = subst (λ (ms : List ℕ). SamePast n before ms) (sym new) (past_on n before marks w 0 w_in s.past);
       }
 
-  pub unmarking_end : {p : ℕ} {marks : List ℕ} → length links ≤ p → Unmarking n links v p before marks → NoneMet n marks
+  pub unmarking_end : {p : ℕ} {marks : List ℕ} → length links ≤ p → Unmarking n links v p marks → NoneMet n marks
   unmarking_end {p} {marks} l s w lw =
       elim (cases_Bool (marked marks w)) [
         | inr f ↦ f
         | inl t ↦ absurd (both_ways _ (ap (some_same (v, w)) (drop_all p links l)) (s.left w lw t))
       ]
 
--- the search over all spaces
+-- the marks in use
 
-pub past_again : {n : ℕ} {a b c : List ℕ} → SamePast n a b → SamePast n b c → SamePast n a c
-past_again {n} {a} {b} {c} h k = record { len = k.len ∙ h.len; high = λ q l. k.high q l ∙ h.high q l }
+pub used_none : (a : Marks) → Used a a
+used_none a = record { n = refl; same = refl; past = record { len = refl; high = λ q _. refl } }
+
+pub used_again : {a b c : Marks} → Used a b → Used b c → Used a c
+used_again {a} {b} {c} h k =
+    record {
+      n = k.n ∙ h.n;
+      same = k.same ∙ h.same;
+      past = record { len = k.past.len ∙ h.past.len; high = λ q l. k.past.high q (omega (arith, h.n)) ∙ h.past.high q l };
+    }
+
+-- one byte written, if the space is one of theirs
+pub used_write : {a b : Marks} (w byte : ℕ) → b.bytes.now ≡ cond (ltb w a.n) (set a.bytes.now w byte) a.bytes.now → b.n ≡ a.n → b.bytes.ghost_name ≡ a.bytes.ghost_name → Used a b
+used_write {a} {b} w byte e n kept =
+    record {
+      n = n;
+      same = kept;
+      past = elim (cases_lt w a.n) [
+        | inl l ↦ subst (λ (ms : List ℕ). SamePast a.n a.bytes.now ms) (sym (written a.n a.bytes.now b.bytes.now w byte l e)) (past_on a.n a.bytes.now a.bytes.now w byte l (record { len = refl; high = λ q _. refl }))
+        | inr l ↦ subst (λ (ms : List ℕ). SamePast a.n a.bytes.now ms) (sym (e ∙ ap (λ (t : Bool). cond t (set a.bytes.now w byte) a.bytes.now) (le-ltb w a.n l))) (record { len = refl; high = λ q _. refl })
+      ];
+    }
+
+-- a step of a walk, with the walk's own links and space in place of the iterator's
+pub round_step : {ch it : Chained} {v u : ℕ} (at to : ℕ) (told : Option (ℕ × ℕ)) → it ≡ ch → u ≡ v → StepsRound it.links.now u at told to → StepsRound ch.links.now v at told to
+round_step {ch} {it} {v} {u} at to told e f h =
+    subst (λ (x : Chained). StepsRound x.links.now v at told to) e (subst (λ (x : ℕ). StepsRound it.links.now x at told to) f h)
+
+-- the search over all spaces
 
 pub below_none : (links : List Link) → FirstRepeatBelow links 0 (length links)
 below_none links = record { high = omega arith; before = λ v q l _ _. absurd (omega arith); here = λ l. absurd (omega arith) }
 
-pub below_more : {links : List Link} {v first found least : ℕ} → least ≡ min first found → FirstRepeatOf links v found → FirstRepeatBelow links v first → FirstRepeatBelow links (v + 1) least
-below_more {links} {v} {first} {found} {least} e h s =
-    elim (cases_lt found first) [
-      | inl l ↦
-          let is : least ≡ found = omega arith in
-          rw is (record {
-            high = h.high;
-            before = λ u q lu lq t. elim (cases_eq u v) [
-              | inl x ↦ h.before q lq (ap (λ (y : ℕ). touches y (get_or links q (0, 0))) (sym x) ∙ t)
-              | inr ne ↦ s.before u q (omega arith) (omega arith) t
-            ];
-            here = h.here;
-          })
-      | inr l ↦
-          let is : least ≡ first = omega arith in
-          rw is (record {
-            high = s.high;
-            before = λ u q lu lq t. elim (cases_eq u v) [
-              | inl x ↦ h.before q (omega arith) (ap (λ (y : ℕ). touches y (get_or links q (0, 0))) (sym x) ∙ t)
-              | inr ne ↦ s.before u q (omega arith) lq t
-            ];
-            here = s.here;
-          })
-    ]
+-- one space more, without a repeat of its own and with one
+pub below_clean : {links : List Link} {v p : ℕ} → NoRepeatOf links v → FirstRepeatBelow links v p → FirstRepeatBelow links (v + 1) p
+below_clean {links} {v} {p} h s =
+    record {
+      high = s.high;
+      before = λ u q lu lq t. elim (cases_eq u v) [
+        | inl x ↦ h q (omega (arith, s.high)) (ap (λ (y : ℕ). touches y (get_or links q (0, 0))) (sym x) ∙ t)
+        | inr ne ↦ s.before u q (omega arith) lq t
+      ];
+      here = s.here;
+    }
+
+pub below_found : {links : List Link} {v first found least : ℕ} → least ≡ min first found → FirstRepeatOf links v found → FirstRepeatBelow links v first → FirstRepeatBelow links (v + 1) least
+below_found {links} {v} {first} {found} {least} e h s =
+    record {
+      high = omega (arith, s.high);
+      before = λ u q lu lq t. elim (cases_eq u v) [
+        | inl x ↦ h.before q (omega arith) (ap (λ (y : ℕ). touches y (get_or links q (0, 0))) (sym x) ∙ t)
+        | inr ne ↦ s.before u q (omega arith) (omega arith) t
+      ];
+      here = λ l. elim (cases_lt found first) [
+        | inl k ↦ let is : least ≡ found = omega arith in rw is h.here
+        | inr k ↦ let is : least ≡ first = omega arith in rw is (s.here (omega arith))
+      ];
+    }
 
 pub below_all : {n v p : ℕ} {links : List Link} → EndsGood n links → n ≤ v → FirstRepeatBelow links v p → FirstRepeat links p
 below_all {n} {v} {p} {links} ends all s =

@@ -3,7 +3,6 @@ use Rattle.std.proofs.Common.{◌≡◌, ℕ, ◌<◌, ◌≤◌, true, false, L
 use Rattle.maps.specs.Links.{Link, some_same}
 use Rattle.maps.specs.Chains.{touches}
 use Rattle.maps.specs.Marks.{marked}
-use Rattle.maps.specs.Repeats.{SamePast}
 
 -- the marked spaces below n are those that a link among the first p joins to v
 abbrev pub Met : ℕ → List Link → ℕ → ℕ → List ℕ → Type 0
@@ -16,16 +15,14 @@ pub record FirstRepeatBelow (links : List Link) (n p : ℕ) : Type 0 where
   pub here : p < length links → some_same (get_or links p (0, 0)) (take p links) ≡ true
 
 -- the walk along the chain of v that marks, at the link at p
-pub record Marking (n : ℕ) (links : List Link) (v p : ℕ) (before marks : List ℕ) : Type 0 where
+pub record Marking (n : ℕ) (links : List Link) (v p : ℕ) (marks : List ℕ) : Type 0 where
   pub high : p ≤ length links
   pub on : p < length links → touches v (get_or links p (0, 0)) ≡ true
   pub met : Met n links v p marks
   pub clean : (q : ℕ) → q < p → touches v (get_or links q (0, 0)) ≡ true → some_same (get_or links q (0, 0)) (take q links) ≡ false
-  pub past : SamePast n before marks
 
 -- the walk that takes the marks back: a space that is marked is joined to v by a link from p on
-pub record Unmarking (n : ℕ) (links : List Link) (v p : ℕ) (before marks : List ℕ) : Type 0 where
+pub record Unmarking (n : ℕ) (links : List Link) (v p : ℕ) (marks : List ℕ) : Type 0 where
   pub high : p ≤ length links
   pub on : p < length links → touches v (get_or links p (0, 0)) ≡ true
   pub left : (w : ℕ) → w < n → marked marks w ≡ true → some_same (v, w) (drop p links) ≡ true
-  pub past : SamePast n before marks

@@ -1,5 +1,5 @@
 -- The links of each space chained in list order. Assumes nothing.
-use Rattle.std.specs.Prelude.{◌≡◌, ℕ, ◌+◌, ◌<◌, ◌≤◌, Bool, true, false, cond, ◌||◌, List, length, get_or, ◌==◌, slice_index, slice_index_or}
+use Rattle.std.specs.Prelude.{◌≡◌, ℕ, ◌+◌, ◌<◌, ◌≤◌, Bool, true, false, cond, ◌||◌, List, length, get_or, Option, MatchOption, ◌==◌, slice_index, slice_index_or}
 use Rattle.maps.specs.Links.{Link}
 
 -- v is an end of the link
@@ -22,3 +22,10 @@ pub record Chains (n : ℕ) (links : List Link) (head : List ℕ) (next : List L
   pub of_space : (v : ℕ) → v < n → Next links v from (slice_index head v)
   pub of_first : (j : ℕ) → from ≤ j → j < length links → Next links (get_or links j (0, 0)).0 (j + 1) (get_or next j (0, 0)).0
   pub of_second : (j : ℕ) → from ≤ j → j < length links → Next links (get_or links j (0, 0)).1 (j + 1) (get_or next j (0, 0)).1
+
+-- One step of a walk round v that stands at the place `at`: it tells the place of the link there and the other end, and then stands at the next link of v. Past the last link of v it tells nothing.
+abbrev pub StepsRound : List Link → (v at : ℕ) → Option (ℕ × ℕ) → (to : ℕ) → Type 0
+StepsRound links v at told to =
+    MatchOption told
+    ((length links ≤ at) × (to ≡ at))
+    (λ x. (at < length links) × (x.0 ≡ at) × (x.1 ≡ other v (slice_index_or links at (0, 0))) × Next links v (at + 1) to)

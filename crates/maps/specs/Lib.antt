@@ -12,4 +12,5 @@ pub mod Ranges
 pub mod Reading
 pub mod Refusals
 pub mod Repeats
+pub mod Searching
 pub mod Sets

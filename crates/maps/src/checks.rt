@@ -1,7 +1,8 @@
 ghost use Rattle.std.specs.Prelude.{◌≡◌, ℕ, ◌<◌, ◌≤◌, length, slice_index_or};
 ghost use Rattle.maps.specs.Links.{pair_at};
 ghost use Rattle.maps.specs.Listing.{BadEnds, Decides, Listed, ReadInto, ReadList, RefusesAt, SoundTo, TooLarge, TooShort, list_row};
-ghost use Rattle.maps.specs.Repeats.{NoneMet, SamePast};
+ghost use Rattle.maps.specs.Repeats.{NoneMet};
+ghost use Rattle.maps.specs.Searching.{MarksFor, Used};
 
 use crate::marks::Marks;
 use crate::refusals::ListRefusal;
@@ -69,18 +70,17 @@ fn check_parts<M: Map>(
 ) -> Result<(), ListRefusal>
     requires size { (length head.old ≡ (M.meaning map.now).spaces) × (length links.old ≡ length (M.meaning map.now).links) × (length next.old ≡ length links.old) }
     requires room { (length head.old ≤ 4096) × (length links.old ≤ 32768) }
-    requires marks { (met.old.n ≡ length head.old) × (length head.old ≤ length met.old.bytes.now) × NoneMet (length head.old) met.old.bytes.now }
+    requires marks { MarksFor (length head.old) met.old }
+    requires none { NoneMet (length head.old) met.old.bytes.now }
     ensures read { ReadList (M.meaning map.now).spaces (M.meaning map.now).links links.new head.new next.new result }
-    ensures past { SamePast (length head.old) met.old.bytes.now met.new.bytes.now }
-    ensures n { met.new.n ≡ met.old.n }
-    ensures same { met.new.bytes.ghost_name ≡ met.old.bytes.ghost_name }
+    ensures used { Used met.old met.new }
 {
     let n = map.spaces();
     let sound = copy_sound(map, n, links);
-    let first = chain_and_search(&links[0..sound], head, &mut next[0..sound], met);
-    if first < sound {
+    let fresh = chain_and_search(&links[..sound], head, &mut next[..sound], met);
+    if fresh < sound {
         return Err(ListRefusal::RepeatedLink {
-            place: first as u32,
+            place: fresh as u32,
         });
     }
     if sound < links.len() {
@@ -106,9 +106,9 @@ fn check_lists<M: Map>(
     let mut met = Marks::new(marks, n);
     check_parts(
         map,
-        &mut links[0..m],
-        &mut head[0..n],
-        &mut next[0..m],
+        &mut links[..m],
+        &mut head[..n],
+        &mut next[..m],
         &mut met,
     )
 }

@@ -12,9 +12,7 @@ fn clear(bytes: &mut [u8], n: usize)
     ensures { Cleared n bytes.old bytes.new }
 {
     let end = n.min(bytes.len());
-    for i in 0..end {
-        bytes[i] = 0;
-    }
+    bytes[..end].fill(0);
 }
 
 impl Drop for Marks<'_> {
@@ -60,13 +58,18 @@ impl Marks<'_> {
     pub fn is_marked(&self, space: usize) -> bool
         ensures { result ≡ (nat_lt space self.now.n && marked self.now.bytes.now space) }
     {
-        if space >= self.n {
-            return false;
+        space < self.n && space < self.bytes.len() && self.bytes[space] != 0
+    }
+
+    // Writes the byte of a space, if it has one.
+    fn write(&mut self, space: usize, byte: u8)
+        ensures bytes { self.new.bytes.now ≡ (if ltb space self.old.n then slice_set self.old.bytes.now space byte else self.old.bytes.now) }
+        ensures n { self.new.n ≡ self.old.n }
+        ensures same { self.new.bytes.ghost_name ≡ self.old.bytes.ghost_name }
+    {
+        if space < self.n && space < self.bytes.len() {
+            self.bytes[space] = byte;
         }
-        if space >= self.bytes.len() {
-            return false;
-        }
-        self.bytes[space] != 0
     }
 
     // Marks a space.
@@ -75,13 +78,7 @@ impl Marks<'_> {
         ensures n { self.new.n ≡ self.old.n }
         ensures same { self.new.bytes.ghost_name ≡ self.old.bytes.ghost_name }
     {
-        if space >= self.n {
-            return;
-        }
-        if space >= self.bytes.len() {
-            return;
-        }
-        self.bytes[space] = 1;
+        self.write(space, 1);
     }
 
     // Takes a mark back.
@@ -90,12 +87,6 @@ impl Marks<'_> {
         ensures n { self.new.n ≡ self.old.n }
         ensures same { self.new.bytes.ghost_name ≡ self.old.bytes.ghost_name }
     {
-        if space >= self.n {
-            return;
-        }
-        if space >= self.bytes.len() {
-            return;
-        }
-        self.bytes[space] = 0;
+        self.write(space, 0);
     }
 }

@@ -1,9 +1,6 @@
-use Rattle.std.proofs.Common.{◌≤◌, length}
+use Rattle.std.proofs.Common.{length}
 use Rattle.maps.specs.Chains.{Chains}
 use Rattle.maps.proofs.chains.chain.Given as goal
 
 abbrev pub invariant-loop-i : goal.invariant-loop-i
-invariant-loop-i l = (l.i ≤ length l.links) × Chains (length l.initial.head) l.links l.head l.next l.i
-
-abbrev pub decreases-loop-i : goal.decreases-loop-i
-decreases-loop-i l = l.i
+invariant-loop-i l = Chains (length l.initial.head) l.links l.head l.next l.i

@@ -1,22 +1,19 @@
-use Rattle.std.proofs.Common.{sym, refl, ◌∙◌, arith}
-use Rattle.maps.proofs.Repeating.{unmarking_start, unmarking_step, unmarking_end}
+use Rattle.std.proofs.Common.{Some, ◌∙◌, arith}
+use Rattle.maps.proofs.Repeating.{unmarking_start, unmarking_step, unmarking_end, used_none, used_again, used_write, round_step}
 use Rattle.maps.proofs.repeats.unmark_neighbours.Goals as goal
 
-pub loop-p-init : goal.loop-p-init
-loop-p-init c = (unmarking_start _ _ c.requires.ends c.requires.chains c.requires.room.1 c.requires.marks.2, c.requires.marks.0, refl)
+pub loop-w-init : goal.loop-w-init
+loop-w-init c =
+    rw c.into_iter-w-iterator.ensures.into_iter_gives
+    (c.round-w-items.ensures.chained, c.round-w-items.ensures.v, unmarking_start _ c.args.chained.now.ends c.round-w-items.ensures.first c.requires.met, used_none c.args.met.now)
 
-pub loop-p-preserved : goal.loop-p-preserved
-loop-p-preserved c = (
-  unmarking_step _ _ c.requires.ends c.requires.chains c.loop-p.invariant.0 c.loop-p-test.true c.far_end.ensures c.loop-p.invariant.1 (omega (arith, c.requires.marks.1, c.loop-p.invariant.0.past.len)) c.unmark.ensures.bytes c.place_after-p.ensures,
-  c.unmark.ensures.n ∙ c.loop-p.invariant.1,
-  c.unmark.ensures.same ∙ c.loop-p.invariant.2,
-)
-
-pub returns : goal.returns
-returns c =
-    record {
-      none = unmarking_end _ _ c.requires.ends c.requires.chains c.loop-p-test.false c.loop-p.invariant.0;
-      past = c.loop-p.invariant.0.past;
-      n = c.loop-p.invariant.1 ∙ sym c.requires.marks.0;
-      same = c.loop-p.invariant.2;
-    }
+pub loop-w-preserved : goal.loop-w-preserved
+loop-w-preserved c =
+    let (ch, v, walk, used) = c.loop-w.invariant in
+    let (ch', v', step) = c.in-Some.ensures.steps in
+    let told = round_step c.loop-w.w-iterator.at c.next.new.self.at (Some (c.in-Some.field-0-0, c.in-Some.w)) ch v step in (
+      ch' ∙ ch,
+      v' ∙ v,
+      unmarking_step _ c.args.chained.now.ends walk told.0 told.2 (used.n ∙ c.requires.marks.0) (omega (arith, c.requires.marks.1, used.past.len)) c.unmark.ensures.bytes told.3,
+      used_again used (used_write _ _ c.unmark.ensures.bytes c.unmark.ensures.n c.unmark.ensures.same),
+    )

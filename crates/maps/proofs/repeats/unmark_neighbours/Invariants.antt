@@ -1,12 +1,11 @@
-use Rattle.std.proofs.Common.{◌≡◌, ◌-◌, length}
+use Rattle.std.proofs.Common.{◌≡◌, length}
+use Rattle.maps.specs.Searching.{Used}
 use Rattle.maps.proofs.Walks.{Unmarking}
 use Rattle.maps.proofs.repeats.unmark_neighbours.Given as goal
 
-abbrev pub invariant-loop-p : goal.invariant-loop-p
-invariant-loop-p l =
-    Unmarking (length l.head) l.links l.v l.p l.initial.met.bytes.now l.met.bytes.now
-    × (l.met.n ≡ length l.head)
-    × (l.met.bytes.ghost_name ≡ l.initial.met.bytes.ghost_name)
-
-abbrev pub decreases-loop-p : goal.decreases-loop-p
-decreases-loop-p l = length l.links - l.p
+abbrev pub invariant-loop-w : goal.invariant-loop-w
+invariant-loop-w l =
+    (l.w-iterator.chained ≡ l.chained)
+    × (l.w-iterator.v ≡ l.v)
+    × Unmarking (length l.chained.head.now) l.chained.links.now l.v l.w-iterator.at l.met.bytes.now
+    × Used l.initial.met l.met
