@@ -1,5 +1,5 @@
 -- The check of a list of links: what its parts found, put together.
-use Rattle.std.proofs.Common.{◌≡◌, ℕ, ◌-◌, ◌<◌, ◌≤◌, List, [], ◌++◌, length, get_or, take, drop, Ok, Err, Result, sym, refl, ap, ◌∙◌, subst, inl, inr, append-nil, arith}
+use Rattle.std.proofs.Common.{◌≡◌, ℕ, ◌<◌, ◌≤◌, List, [], ◌++◌, length, get_or, take, drop, Ok, Err, Result, sym, refl, ap, ◌∙◌, subst, inl, inr, append-nil, arith}
 use Rattle.std.proofs.lemmas.List.{take_all, take_at, take-take, get_or-take, length-take, ext_get_or}
 use Rattle.std.proofs.lemmas.Slice.{drop-append-drop}
 use Rattle.std.proofs.lemmas.Bool.{cases_lt}
@@ -97,14 +97,14 @@ module _ {n : ℕ} {list copy : List Link} {f : ℕ} (same_length : length copy 
 -- the call as a whole
 
 -- the numbers that the checks leave
-pub room_is : (n m a b c d : ℕ) → (TooLarge n m → ⊥) → (TooShort n m a b c d → ⊥) → (n ≤ 4096) × (m ≤ 32768) × (n ≤ d) × (m ≤ a) × (n ≤ b) × (m ≤ c)
-room_is n m a b c d large short = (
+pub room_is : (n m : ℕ) (lent : Lent) → (TooLarge n m → ⊥) → (TooShort n m lent → ⊥) → (n ≤ 4096) × (m ≤ 32768) × (n ≤ length lent.marks) × (m ≤ length lent.links) × (n ≤ length lent.head) × (m ≤ length lent.next)
+room_is n m lent large short = (
   elim (cases_lt 4096 n) [ inl x ↦ absurd (large (inr (inl x))) | inr x ↦ x ],
   elim (cases_lt 32768 m) [ inl x ↦ absurd (large (inr (inr x))) | inr x ↦ x ],
-  elim (cases_lt d n) [ inl x ↦ absurd (short (inl x)) | inr x ↦ x ],
-  elim (cases_lt a m) [ inl x ↦ absurd (short (inr (inl x))) | inr x ↦ x ],
-  elim (cases_lt b n) [ inl x ↦ absurd (short (inr (inr (inl x)))) | inr x ↦ x ],
-  elim (cases_lt c m) [ inl x ↦ absurd (short (inr (inr (inr x)))) | inr x ↦ x ],
+  elim (cases_lt (length lent.marks) n) [ inl x ↦ absurd (short (inl x)) | inr x ↦ x ],
+  elim (cases_lt (length lent.links) m) [ inl x ↦ absurd (short (inr (inl x))) | inr x ↦ x ],
+  elim (cases_lt (length lent.head) n) [ inl x ↦ absurd (short (inr (inr (inl x)))) | inr x ↦ x ],
+  elim (cases_lt (length lent.next) m) [ inl x ↦ absurd (short (inr (inr (inr x)))) | inr x ↦ x ],
 )
 
 pub cleared_again : (n n₁ n₂ n₃ : ℕ) (a b c d : List ℕ) → n₁ ≡ n → n₂ ≡ n → n₃ ≡ n → Cleared n₁ a b → SamePast n₂ b c → Cleared n₃ c d → Cleared n a d

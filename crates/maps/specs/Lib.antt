@@ -6,6 +6,7 @@ pub mod DrawnLinks
 pub mod HexLinks
 pub mod LinkChecks
 pub mod Links
+pub mod ListMemory
 pub mod Listing
 pub mod Marks
 pub mod Ranges

@@ -19,16 +19,13 @@ pub record Lent : Type 0 where
   pub next : List Link
   pub marks : List ℕ
 
--- the memory lent is too short, by its lengths
-abbrev pub TooShort : (spaces links : ℕ) (copy head next marks : ℕ) → Type 0
-TooShort n m copy head next marks = (marks < n) ⊎ ((copy < m) ⊎ ((head < n) ⊎ (next < m)))
+-- the memory lent is too short
+abbrev pub TooShort : (spaces links : ℕ) → Lent → Type 0
+TooShort n m lent = (length lent.marks < n) ⊎ ((length lent.links < m) ⊎ ((length lent.head < n) ⊎ (length lent.next < m)))
 
 -- the checks before the list is read
-abbrev pub list_row : (spaces links : ℕ) (copy head next marks : ℕ) → List Check
-list_row n m copy head next marks =
-    (10, TooLarge n m)
-    ∷ ((21, TooShort n m copy head next marks)
-    ∷ [])
+abbrev pub list_row : (spaces links : ℕ) → Lent → List Check
+list_row n m lent = (10, TooLarge n m) ∷ ((21, TooShort n m lent) ∷ [])
 
 abbrev pub Decides : List Check → Result (Unit {0}) ListRefusal → Type 0
 Decides checks r = decided checks (λ number. ListRefused r number None) (ListAccepted r)
@@ -69,6 +66,6 @@ pub record ReadInto (map : Meaning) (lent : Lent) (r : Result (Unit {0}) ListRef
 -- the whole call
 abbrev pub Listed : Meaning → Lent → Result (Unit {0}) ListRefusal → Lent → Type 0
 Listed map lent r left =
-    decided (list_row map.spaces (length map.links) (length lent.links) (length lent.head) (length lent.next) (length lent.marks))
+    decided (list_row map.spaces (length map.links) lent)
     (λ number. ListRefused r number None × (left ≡ lent))
     (ReadInto map lent r left)

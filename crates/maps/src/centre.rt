@@ -9,18 +9,13 @@ pub struct Centre {
     pub y: f32,
 }
 
-fn even_x(column: u8) -> f32
+// Half a tile to the right in odd rows.
+fn column_x(row: u8, column: u8) -> f32
     requires { column < 64 }
-    ensures { HasValue result false (2 * column) 2 }
+    ensures { HasValue result false (2 * column + row % 2) 2 }
 {
-    column as f32
-}
-
-fn odd_x(column: u8) -> f32
-    requires { column < 64 }
-    ensures { HasValue result false (2 * column + 1) 2 }
-{
-    column as f32 + 0.5
+    let x = column as f32;
+    if row % 2 == 1 { x + 0.5 } else { x }
 }
 
 fn row_y(row: u8) -> f32
@@ -36,16 +31,8 @@ pub(crate) fn centre_at(row: u8, column: u8) -> Centre
     requires column { column < 64 }
     ensures { Centred row column result.x result.y }
 {
-    let y = row_y(row);
-    if row % 2 == 1 {
-        Centre {
-            x: odd_x(column),
-            y,
-        }
-    } else {
-        Centre {
-            x: even_x(column),
-            y,
-        }
+    Centre {
+        x: column_x(row, column),
+        y: row_y(row),
     }
 }

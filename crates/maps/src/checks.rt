@@ -1,31 +1,32 @@
 ghost use Rattle.std.specs.Prelude.{◌≡◌, ℕ, ◌<◌, ◌≤◌, length, slice_index_or};
 ghost use Rattle.maps.specs.Links.{pair_at};
+ghost use Rattle.maps.specs.ListMemory.{SameMemory, contents};
 ghost use Rattle.maps.specs.Listing.{BadEnds, Decides, Listed, ReadInto, ReadList, RefusesAt, SoundTo, TooLarge, TooShort, list_row};
 ghost use Rattle.maps.specs.Repeats.{NoneMet};
 ghost use Rattle.maps.specs.Searching.{MarksFor, Used};
 
 use crate::marks::Marks;
+use crate::memory::ListMemory;
 use crate::refusals::ListRefusal;
 use crate::repeats::chain_and_search;
 use crate::source::Map;
 
 // A map's size and the memory lent for its links.
-fn check_room(
-    spaces: u32,
-    links: u32,
-    copy: &[(u16, u16)],
-    head: &[u16],
-    next: &[(u16, u16)],
-    marks: &[u8],
-) -> Result<(), ListRefusal>
-    ensures { Decides (list_row spaces links (length copy.now) (length head.now) (length next.now) (length marks.now)) result }
+fn check_room(spaces: u32, links: u32, memory: &ListMemory<'_>) -> Result<(), ListRefusal>
+    ensures { Decides (list_row spaces links (contents memory.now)) result }
 {
     if spaces < 1 || spaces > 4096 || links > 32768 {
         return Err(ListRefusal::SizeOutOfRange);
     }
     let n = spaces as usize;
     let m = links as usize;
-    if marks.len() < n || copy.len() < m || head.len() < n || next.len() < m {
+    let ListMemory {
+        links,
+        head,
+        next,
+        marks,
+    } = memory;
+    if marks.len() < n || links.len() < m || head.len() < n || next.len() < m {
         return Err(ListRefusal::ShortMemory);
     }
     Ok(())
@@ -36,14 +37,14 @@ fn copy_sound<M: Map>(map: &M, n: u32, links: &mut [(u16, u16)]) -> usize
     requires { (length links.old ≡ length (M.meaning map.now).links) × (length links.old ≤ 32768) }
     ensures { SoundTo n (M.meaning map.now).links links.new result }
 {
-    for i in 0..links.len() {
+    for (i, copy) in links.iter_mut().enumerate() {
         let Some((a, b)) = map.pair(i as u32) else {
             return i;
         };
         if a as u32 >= n || b as u32 >= n || a == b {
             return i;
         }
-        links[i] = (a, b);
+        *copy = (a, b);
     }
     links.len()
 }
@@ -90,39 +91,29 @@ fn check_parts<M: Map>(
 }
 
 // Checks the links of a map that is not too large, in memory that suffices for it.
-fn check_lists<M: Map>(
-    map: &M,
-    links: &mut [(u16, u16)],
-    head: &mut [u16],
-    next: &mut [(u16, u16)],
-    marks: &mut [u8],
-) -> Result<(), ListRefusal>
+fn check_lists<M: Map>(map: &M, memory: &mut ListMemory<'_>) -> Result<(), ListRefusal>
     requires size { TooLarge (M.meaning map.now).spaces (length (M.meaning map.now).links) → ⊥ }
-    requires room { TooShort (M.meaning map.now).spaces (length (M.meaning map.now).links) (length links.old) (length head.old) (length next.old) (length marks.old) → ⊥ }
-    ensures { ReadInto (M.meaning map.now) (record { links = links.old; head = head.old; next = next.old; marks = marks.old }) result (record { links = links.new; head = head.new; next = next.new; marks = marks.new }) }
+    requires room { TooShort (M.meaning map.now).spaces (length (M.meaning map.now).links) (contents memory.old) → ⊥ }
+    ensures read { ReadInto (M.meaning map.now) (contents memory.old) result (contents memory.new) }
+    ensures same { SameMemory memory.old memory.new }
 {
     let n = map.spaces() as usize;
     let m = map.links() as usize;
-    let mut met = Marks::new(marks, n);
+    let mut met = Marks::new(memory.marks, n);
     check_parts(
         map,
-        &mut links[..m],
-        &mut head[..n],
-        &mut next[..m],
+        &mut memory.links[..m],
+        &mut memory.head[..n],
+        &mut memory.next[..m],
         &mut met,
     )
 }
 
 // Checks a map's list of links: its size, the memory lent, then each link in list order. An accepted list is left in `links`, chained by `head` and `next`; the marks end as 0.
-pub fn check_links<M: Map>(
-    map: &M,
-    links: &mut [(u16, u16)],
-    head: &mut [u16],
-    next: &mut [(u16, u16)],
-    marks: &mut [u8],
-) -> Result<(), ListRefusal>
-    ensures { Listed (M.meaning map.now) (record { links = links.old; head = head.old; next = next.old; marks = marks.old }) result (record { links = links.new; head = head.new; next = next.new; marks = marks.new }) }
+pub fn check_links<M: Map>(map: &M, memory: &mut ListMemory<'_>) -> Result<(), ListRefusal>
+    ensures listed { Listed (M.meaning map.now) (contents memory.old) result (contents memory.new) }
+    ensures same { SameMemory memory.old memory.new }
 {
-    check_room(map.spaces(), map.links(), links, head, next, marks)?;
-    check_lists(map, links, head, next, marks)
+    check_room(map.spaces(), map.links(), memory)?;
+    check_lists(map, memory)
 }

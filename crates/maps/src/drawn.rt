@@ -38,11 +38,7 @@ fn see_ends(ends: &[u16])
 fn count_links(ends: &[u16]) -> u32
     ensures { result ≡ length (drawn_links ends.now) }
 {
-    let pairs = ends.len() / 2;
-    if pairs > u32::MAX as usize {
-        return u32::MAX;
-    }
-    pairs as u32
+    u32::try_from(ends.len() / 2).unwrap_or(u32::MAX)
 }
 
 // The pair at a place: the numbers from there on, taken apart as first end, second end, rest.
@@ -52,11 +48,7 @@ fn pair_from(ends: &[u16], place: u32) -> Option<(u16, u16)>
     if place == u32::MAX {
         return None;
     }
-    let start = 2 * place as usize;
-    if start > ends.len() {
-        return None;
-    }
-    match &ends[start..] {
+    match ends.get(2 * place as usize..)? {
         [first, second, _rest @ ..] => Some((*first, *second)),
         _ => None,
     }

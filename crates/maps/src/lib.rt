@@ -7,6 +7,7 @@ pub mod checks;
 pub mod drawn;
 pub mod hex;
 pub mod marks;
+pub mod memory;
 pub mod reading;
 pub mod refusals;
 mod repeats;

@@ -1,4 +1,4 @@
-use Rattle.std.proofs.Common.{length, sym, arith}
+use Rattle.std.proofs.Common.{sym, arith}
 use Rattle.maps.proofs.Chaining.{chains_step}
 use Rattle.maps.proofs.chains.chain.Goals as goal
 

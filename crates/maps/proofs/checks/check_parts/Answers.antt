@@ -1,4 +1,4 @@
-use Rattle.std.proofs.Common.{◌-◌, sym, ◌∙◌, arith}
+use Rattle.std.proofs.Common.{sym, ◌∙◌, arith}
 use Rattle.std.proofs.lemmas.List.{length-take, drop_all}
 use Rattle.maps.proofs.Listed.{sound_at, refuses_at, chains_at, part_length, copied_ends, repeated, bad_ends, all_good}
 use Rattle.maps.proofs.checks.check_parts.Goals as goal

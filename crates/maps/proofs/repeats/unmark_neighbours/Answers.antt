@@ -1,5 +1,5 @@
 use Rattle.std.proofs.Common.{Some, ◌∙◌, arith}
-use Rattle.maps.proofs.Repeating.{unmarking_start, unmarking_step, unmarking_end, used_none, used_again, used_write, round_step}
+use Rattle.maps.proofs.Repeating.{unmarking_start, unmarking_step, used_none, used_again, used_write, round_step}
 use Rattle.maps.proofs.repeats.unmark_neighbours.Goals as goal
 
 pub loop-w-init : goal.loop-w-init
