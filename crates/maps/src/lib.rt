@@ -8,6 +8,7 @@ pub mod drawn;
 pub mod hex;
 pub mod marks;
 pub mod memory;
+pub mod pairs;
 pub mod reading;
 pub mod refusals;
 mod repeats;

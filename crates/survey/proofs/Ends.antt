@@ -1,10 +1,11 @@
 -- What a survey leaves, from what its parts leave.
 use Rattle.std.proofs.Common.{◌≡◌, ℕ, ◌*◌, ◌≤◌, List, ◌++◌, length, take, drop, Some, Ok, Err, Result, sym, refl, ap, ◌∙◌, subst, inl, inr, arith}
+use Rattle.std.proofs.lemmas.Bool.{cases_lt}
 use Rattle.std.proofs.lemmas.List.{take-append-drop, take_at, drop_at, length-take-le}
 use Rattle.maps.specs.declared.refusals.ListRefusal.{ListRefusal}
 use Rattle.maps.specs.declared.refusals.ListRefusal.TheVariants as list
 use Rattle.maps.specs.Links.{Link, Meaning}
-use Rattle.maps.specs.LinkChecks.{FirstBadLink, AllLinksGood, GoodLinks}
+use Rattle.maps.specs.LinkChecks.{FirstBadLink, AllLinksGood, EndsGood, GoodLinks}
 use Rattle.maps.specs.Chains.{Chains}
 use Rattle.maps.specs.Listing.{Lent, TooLarge, TooShort, ReadList, ReadInto, Listed}
 use Rattle.maps.specs.Refusals.{list_number, list_place}
@@ -12,7 +13,7 @@ use Rattle.maps.proofs.Good.{links_good}
 use Rattle.survey.specs.declared.refusals.SurveyRefusal.{SurveyRefusal}
 use Rattle.survey.specs.Refusals.{survey_number, survey_place, from_list, Refused}
 use Rattle.survey.specs.Outcome as out
-use Rattle.survey.specs.Outcome.{DenseOrOrdered}
+use Rattle.survey.specs.Outcome.{DenseOrOrdered, Short}
 use Rattle.survey.specs.Parts.{Parts}
 use Rattle.survey.proofs.Peeling.{ordering_not_dense}
 use Rattle.survey.proofs.Cells.{one_cell, one_colour}
@@ -25,20 +26,29 @@ size_fits low high few (inl x) = omega arith
 size_fits low high few (inr (inl x)) = omega arith
 size_fits low high few (inr (inr x)) = omega arith
 
-enough : {n m a b c d : ℕ} → n ≤ a → m ≤ b → n ≤ c → m ≤ d → TooShort n m b c d a → ⊥
-enough ha hb hc hd (inl l) = omega arith
-enough ha hb hc hd (inr (inl l)) = omega arith
-enough ha hb hc hd (inr (inr (inl l))) = omega arith
-enough ha hb hc hd (inr (inr (inr l))) = omega arith
+enough : {n m : ℕ} (lent : Lent) → n ≤ length lent.marks → m ≤ length lent.links → n ≤ length lent.head → m ≤ length lent.next → TooShort n m lent → ⊥
+enough lent ha hb hc hd (inl l) = omega arith
+enough lent ha hb hc hd (inr (inl l)) = omega arith
+enough lent ha hb hc hd (inr (inr (inl l))) = omega arith
+enough lent ha hb hc hd (inr (inr (inr l))) = omega arith
 
-pub list_read : (k degrees : ℕ) (map : Meaning) (lent left : Lent) (r : Result (Unit {0}) ListRefusal) →
+-- what memory that suffices has room for
+pub room_is : (n k : ℕ) (lent : out.Lent) → (Short n k lent → ⊥) → (n ≤ length lent.order) × (n * k ≤ length lent.table) × (n ≤ length lent.members) × (n ≤ length lent.marks)
+room_is n k lent short = (
+  elim (cases_lt (length lent.order) n) [ inl x ↦ absurd (short (inl x)) | inr x ↦ x ],
+  elim (cases_lt (length lent.table) (n * k)) [ inl x ↦ absurd (short (inr (inl x))) | inr x ↦ x ],
+  elim (cases_lt (length lent.members) n) [ inl x ↦ absurd (short (inr (inr (inl x)))) | inr x ↦ x ],
+  elim (cases_lt (length lent.marks) n) [ inl x ↦ absurd (short (inr (inr (inr x)))) | inr x ↦ x ],
+)
+
+pub list_read : (k : ℕ) (map : Meaning) (lent left : Lent) (r : Result (Unit {0}) ListRefusal) →
     (k ≤ 8) × (1 ≤ map.spaces) × (map.spaces ≤ 4096) × (length map.links ≤ 32768) →
-    (length lent.links ≡ 32768) × (length lent.head ≡ 4096) × (length lent.next ≡ 32768) × (degrees ≡ 4096) →
+    length lent.links ≡ 32768 → length lent.head ≡ 4096 → length lent.next ≡ 32768 →
     map.spaces ≤ length lent.marks → Listed map lent r left → ReadInto map lent r left
-list_read k degrees map lent left r limits work marks h =
+list_read k map lent left r limits copy heads nexts marks h =
     elim h [
       | inl x ↦ absurd (size_fits limits.1 limits.2 limits.3 x.0)
-      | inr (_, inl x) ↦ absurd (enough marks (omega (arith, limits.3, work.0)) (omega (arith, limits.2, work.1)) (omega (arith, limits.3, work.2)) x.0)
+      | inr (_, inl x) ↦ absurd (enough lent marks (omega (arith, limits.3)) (omega (arith, limits.2)) (omega (arith, limits.3)) x.0)
       | inr (_, inr (_, x)) ↦ x
     ]
 
@@ -106,33 +116,29 @@ parts_ended n k links g small lent left o t s (Err e) (dense, set, order, table)
       ((ap survey_number dense, ap survey_place dense), record { set = set; order = order; table = table; past_order = o; past_table = t; past_set = s }),
     )
 
--- what the survey of faultless links asks of the parts of the memory; a, b and d are the lengths of the parts
-pub parts_asked : (n a b d k : ℕ) (list copy next : List Link) (head order table members degree : List ℕ) →
-    a ≡ n → b ≡ length list → d ≡ n * k → (k ≤ 8) × (1 ≤ n) × (n ≤ 4096) × (length list ≤ 32768) →
-    length copy ≡ 32768 → length head ≡ 4096 → length next ≡ 32768 → length degree ≡ 4096 →
-    n ≤ length order → n * k ≤ length table → n ≤ length members →
+-- the parts of the working memory that hold faultless links and their chains; a and b are the lengths of the parts
+pub parts_chained : {n a b : ℕ} {list : List Link} (copy next : List Link) (head : List ℕ) →
+    a ≡ n → b ≡ length list → n ≤ length head → length list ≤ length next →
     AllLinksGood n list × (take (length list) copy ≡ list) × Chains n list (take n head) (take (length list) next) 0 →
-    GoodLinks (length (take a order)) (take b copy)
-    × Chains (length (take a order)) (take b copy) (take a head) (take b next) 0
-    × ((length (take a order) ≤ 4096) × (k ≤ 8) × (length (take b copy) ≤ 32768))
-    × ((length (take a head) ≡ length (take a order)) × (length (take b next) ≡ length (take b copy)) × (length (take a degree) ≡ length (take a order)) × (length (take d table) ≡ length (take a order) * k) × (length (take a members) ≡ length (take a order)))
-parts_asked n a b d k list copy next head order table members degree ea eb ed (narrow, some, few, short) lc lh ln ld lo lt lm (good, same, chains) =
-    let wide : length (take a order) ≡ n = length-take-le a order (omega arith) ∙ ea in
+    EndsGood (length (take a head)) (take b copy)
+    × Chains (length (take a head)) (take b copy) (take a head) (take b next) 0
+    × (length (take b next) ≡ length (take b copy))
+parts_chained {n} {a} {b} {list} copy next head ea eb lh ln (good, same, chains) =
+    let wide : length (take a head) ≡ n = length-take-le a head (omega arith) ∙ ea in
     let copied : take b copy ≡ list = ap (λ (x : ℕ). take x copy) eb ∙ same in
     let heads : take a head ≡ take n head = ap (λ (x : ℕ). take x head) ea in
-    let nexts : take b next ≡ take (length list) next = ap (λ (x : ℕ). take x next) eb in
-    let longs : length (take b copy) ≡ length list = ap length copied in (
-      rw (wide, copied) (links_good n list good),
+    let nexts : take b next ≡ take (length list) next = ap (λ (x : ℕ). take x next) eb in (
+      rw (wide, copied) (links_good n list good).ends,
       rw (wide, copied, heads, nexts) chains,
-      (omega arith, narrow, omega arith),
-      (
-        length-take-le a head (omega arith) ∙ (ea ∙ sym wide),
-        length-take-le b next (omega arith) ∙ (eb ∙ sym longs),
-        length-take-le a degree (omega arith) ∙ (ea ∙ sym wide),
-        length-take-le d table (omega arith) ∙ (ed ∙ ap (λ (x : ℕ). x * k) (sym wide)),
-        length-take-le a members (omega arith) ∙ (ea ∙ sym wide),
-      ),
+      length-take-le b next (omega arith) ∙ (eb ∙ sym (ap length copied)),
     )
+
+pub parts_good : {n a b : ℕ} {list : List Link} (copy : List Link) (order : List ℕ) → a ≡ n → b ≡ length list → n ≤ length order → AllLinksGood n list → take (length list) copy ≡ list →
+    GoodLinks (length (take a order)) (take b copy)
+parts_good {n} {a} {b} {list} copy order ea eb lo good same =
+    let wide : length (take a order) ≡ n = length-take-le a order (omega arith) ∙ ea in
+    let copied : take b copy ≡ list = ap (λ (x : ℕ). take x copy) eb ∙ same in
+    rw (wide, copied) (links_good n list good)
 
 -- what it leaves in the whole memory
 pub parts_left : (n a b d k : ℕ) (list copy : List Link) (order table members marks marks' order' table' members' : List ℕ) (r : Result (Unit {0}) SurveyRefusal) →

@@ -1,16 +1,17 @@
 -- Placing one space: its links are walked along their chain.
-use Rattle.std.proofs.Common.{◌≡◌, ℕ, zero, suc, ◌+◌, ◌-◌, ◌<◌, ◌≤◌, Bool, true, false, cond, ◌&&◌, ◌||◌, eqb, leb, List, [], ◌∷◌, length, get_or, drop, set, count_by, sym, refl, ap, ◌∙◌, subst, inl, inr, arith}
+use Rattle.std.proofs.Common.{◌≡◌, ℕ, zero, suc, ◌+◌, ◌-◌, ◌<◌, ◌≤◌, Bool, true, false, ◌&&◌, ◌||◌, eqb, leb, List, [], ◌∷◌, length, get_or, drop, set, count_by, Some, sym, refl, ap, ◌∙◌, subst, inl, inr, arith}
 use Rattle.std.specs.List.{AllByRecursion}
 use Rattle.std.proofs.lemmas.List.{drop-drop, get_or-drop, drop-set, drop-set-lt, drop_more, drop_all, length-set, length-drop, get_or-set_same, get_or-set_other}
 use Rattle.std.proofs.lemmas.List.Sums.{sum_by-take-drop, sum_by-cons}
 use Rattle.std.proofs.ByRecursion.{All-get_or}
-use Rattle.std.proofs.lemmas.Bool.{cases_eq, cases_Bool, cases_lt, eqb-true, eq-eqb, ne_eqb, le-leb, lt-leb, leb-true, cond_both, or_cases, both_ways}
+use Rattle.std.proofs.lemmas.Bool.{cases_eq, cases_Bool, cases_lt, eq-eqb, ne_eqb, le-leb, lt-leb, leb-true}
 use Rattle.std.proofs.lemmas.Bool.Decides.{nat_tests}
-use Rattle.maps.proofs.Repeating.{same_of, same_not}
+use Rattle.maps.proofs.Repeating.{same_of, same_not, round_step}
+use Rattle.maps.specs.declared.chains.Chained.{Chained}
 use Rattle.maps.specs.Links.{Link, same}
 use Rattle.maps.specs.Density.{joins_in, neighbours_in}
 use Rattle.maps.specs.LinkChecks.{GoodLinks}
-use Rattle.maps.specs.Chains.{other, touches, Next, Chains}
+use Rattle.maps.specs.Chains.{other, touches, Next, StepsRound}
 use Rattle.survey.specs.Orders.{times}
 use Rattle.survey.specs.Filling.{outside, Peeled}
 use Rattle.survey.specs.Walk.{Work, Lower}
@@ -232,27 +233,26 @@ module _ (k n : ℕ) (links : List Link) (g : GoodLinks n links) (order degree :
         peeled = subst (λ (xs : List ℕ). Peeled k links xs) (sym s.kept) (omega (arith, now v lv), p);
       }
 
--- the link of v after the one at c
-next_of : (n : ℕ) (links : List Link) (head : List ℕ) (next : List Link) → Chains n links head next 0 → (c v : ℕ) → c < length links → touches v (get_or links c (0, 0)) ≡ true →
-    Next links v (c + 1) (cond (eqb (get_or links c (0, 0)).0 v) (get_or next c (0, 0)).0 (get_or next c (0, 0)).1)
-next_of n links head next h c v l t =
-    cond_both (eqb (get_or links c (0, 0)).0 v) (get_or next c (0, 0)).0 (get_or next c (0, 0)).1 (λ p. Next links v (c + 1) p)
-    (λ e. subst (λ (x : ℕ). Next links x (c + 1) (get_or next c (0, 0)).0) (eqb-true (get_or links c (0, 0)).0 v e) (h.of_first c (omega arith) l))
-    (λ e. subst (λ (x : ℕ). Next links x (c + 1) (get_or next c (0, 0)).1) (eqb-true (get_or links c (0, 0)).1 v (elim (or_cases (eqb (get_or links c (0, 0)).0 v) (eqb (get_or links c (0, 0)).1 v) t) [ inl q ↦ absurd (both_ways _ e q) | inr q ↦ q ])) (h.of_second c (omega arith) l))
-
 -- one turn, from what the code knows
-pub lower_step : {k n : ℕ} {links : List Link} {head : List ℕ} {next : List Link} {v : ℕ} {placed order degree : List ℕ} {settled queued c w p : ℕ} →
-    GoodLinks n links → Chains n links head next 0 → Lower k n links v placed order degree settled queued c → c < length links →
-    w ≡ other v (get_or links c (0, 0)) → p ≡ cond (eqb (get_or links c (0, 0)).0 v) (get_or next c (0, 0)).0 (get_or next c (0, 0)).1 →
+pub lower_step : {k n : ℕ} {links : List Link} {v : ℕ} {placed order degree : List ℕ} {settled queued c w p : ℕ} →
+    GoodLinks n links → Lower k n links v placed order degree settled queued c → c < length links →
+    w ≡ other v (get_or links c (0, 0)) → Next links v (c + 1) p →
     (w < n) × (1 ≤ get_or degree w 0) ×
     (get_or degree w 0 - 1 ≡ k → (1 ≤ queued) × Lower k n links v placed (set order (queued - 1) w) (set degree w (get_or degree w 0 - 1)) settled (queued - 1) p) ×
-    ((get_or degree w 0 - 1 ≡ k → ⊥) → Lower k n links v placed order (set degree w (get_or degree w 0 - 1)) settled queued p) ×
-    (c < p)
-lower_step {k} {n} {links} {head} {next} {v} {placed} {order} {degree} {settled} {queued} {c} {w} {p} g ch s l e f =
-    let on : Next links v (c + 1) p = subst (λ (q : ℕ). Next links v (c + 1) q) (sym f) (next_of n links head next ch c v l (s.here l)) in (
-      w_in n links g k v placed order degree settled queued c l s p on w e,
-      some n links g k v placed order degree settled queued c l s p on w e,
-      (λ h. (room n links g k v placed order degree settled queued c l s p on w e h, joins n links g k v placed order degree settled queued c l s p on w e h)),
-      stays n links g k v placed order degree settled queued c l s p on w e,
-      omega (arith, on.low),
-    )
+    ((get_or degree w 0 - 1 ≡ k → ⊥) → Lower k n links v placed order (set degree w (get_or degree w 0 - 1)) settled queued p)
+lower_step {k} {n} {links} {v} {placed} {order} {degree} {settled} {queued} {c} {w} {p} g s l e on = (
+  w_in n links g k v placed order degree settled queued c l s p on w e,
+  some n links g k v placed order degree settled queued c l s p on w e,
+  (λ h. (room n links g k v placed order degree settled queued c l s p on w e h, joins n links g k v placed order degree settled queued c l s p on w e h)),
+  stays n links g k v placed order degree settled queued c l s p on w e,
+)
+
+-- the same, from what the walk tells
+pub lower_told : {k n : ℕ} {ch it : Chained} {u v : ℕ} {placed order degree : List ℕ} {settled queued : ℕ} (at to p w : ℕ) →
+    GoodLinks n ch.links.now → it ≡ ch → u ≡ v → Lower k n ch.links.now v placed order degree settled queued at → StepsRound it.links.now u at (Some (p, w)) to →
+    (w < n) × (1 ≤ get_or degree w 0) ×
+    (get_or degree w 0 - 1 ≡ k → (1 ≤ queued) × Lower k n ch.links.now v placed (set order (queued - 1) w) (set degree w (get_or degree w 0 - 1)) settled (queued - 1) to) ×
+    ((get_or degree w 0 - 1 ≡ k → ⊥) → Lower k n ch.links.now v placed order (set degree w (get_or degree w 0 - 1)) settled queued to)
+lower_told at to p w g e f s step =
+    let told = round_step at to (Some (p, w)) e f step in
+    lower_step g s told.0 told.2 told.3

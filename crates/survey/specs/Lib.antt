@@ -5,6 +5,7 @@ pub mod Orders
 pub mod Outcome
 pub mod Parts
 pub mod Refusals
+pub mod SurveyMemory
 pub mod Tables
 pub mod Theorems
 pub mod Walk

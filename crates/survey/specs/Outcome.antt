@@ -24,14 +24,14 @@ pub record Lent : Type 0 where
 abbrev pub BadDepth : ℕ → Type 0
 BadDepth k = (k < 1) ⊎ (8 < k)
 
--- memory of these lengths does not suffice for n spaces at depth k
-abbrev pub Short : (n k : ℕ) (order table members marks : ℕ) → Type 0
-Short n k order table members marks = (order < n) ⊎ ((table < n * k) ⊎ ((members < n) ⊎ (marks < n)))
+-- the memory lent does not suffice for n spaces at depth k
+abbrev pub Short : (n k : ℕ) → Lent → Type 0
+Short n k lent =
+    (length lent.order < n) ⊎ ((length lent.table < n * k) ⊎ ((length lent.members < n) ⊎ (length lent.marks < n)))
 
 -- the checks before the list of links is read, of a map with n spaces and m links
-abbrev pub survey_row : (n m k : ℕ) (order table members marks : ℕ) → List Check
-survey_row n m k order table members marks =
-    (20, BadDepth k) ∷ ((10, TooLarge n m) ∷ ((21, Short n k order table members marks) ∷ []))
+abbrev pub survey_row : (n m k : ℕ) → Lent → List Check
+survey_row n m k lent = (20, BadDepth k) ∷ ((10, TooLarge n m) ∷ ((21, Short n k lent) ∷ []))
 
 -- The map is not dense: an order, its table, and colours of which none holds a ring; the rest of the memory is as it was.
 pub record Ordered (n k : ℕ) (links : List Link) (lent left : Lent) : Type 0 where
@@ -78,6 +78,6 @@ abbrev pub Surveyed : Meaning → (k : ℕ) → Lent → Result (Unit {0}) Surve
 Surveyed map k lent r left =
     let n : ℕ = map.spaces in
     let m : ℕ = length map.links in
-    decided (survey_row n m k (length lent.order) (length lent.table) (length lent.members) (length lent.marks))
+    decided (survey_row n m k lent)
     (λ number. Refused r number None × (left ≡ lent))
     (ReadMap n k map.links lent r left × Cleared n lent.marks left.marks)

@@ -12,8 +12,8 @@ fn note_places(links: &[(u16, u16)], k: u16, order: &[u16], places: &mut [u16])
     requires room { length places.old ≤ 4096 }
     ensures { Placed (length places.old) order.now places.new }
 {
-    for i in 0..order.len() {
-        places[order[i] as usize] = i as u16;
+    for (i, v) in order.iter().enumerate() {
+        places[*v as usize] = i as u16;
     }
 }
 
@@ -44,12 +44,11 @@ pub(crate) fn fill_table(
     note_places(links, k, order, places);
     count.fill(0);
     table.fill(EMPTY);
-    for i in 0..links.len() {
-        let (a, b) = links[i];
-        if places[a as usize] < places[b as usize] {
-            enter(k as usize, b as usize, a, count, table);
+    for (a, b) in links {
+        if places[*a as usize] < places[*b as usize] {
+            enter(k as usize, *b as usize, *a, count, table);
         } else {
-            enter(k as usize, a as usize, b, count, table);
+            enter(k as usize, *a as usize, *b, count, table);
         }
     }
 }

@@ -3,6 +3,7 @@
 
 mod fill;
 pub mod look_up;
+pub mod memory;
 mod peel;
 pub mod refusals;
 pub mod survey;

@@ -1,67 +1,74 @@
 ghost use Rattle.std.specs.Prelude.{◌≡◌, ◌*◌, ◌≤◌, length, nat_lt, slice_index};
-ghost use Rattle.maps.specs.Chains.{Chains};
 ghost use Rattle.maps.specs.LinkChecks.{GoodLinks};
 ghost use Rattle.maps.specs.Marks.{Cleared};
 ghost use Rattle.maps.specs.Sets.{bytes};
-ghost use Rattle.survey.specs.Outcome.{ReadMap, Surveyed, survey_row};
+ghost use Rattle.survey.specs.Outcome.{ReadMap, Short, Surveyed, survey_row};
 ghost use Rattle.survey.specs.Parts.{Decides, Parts};
+ghost use Rattle.survey.specs.SurveyMemory.{SameMemory, contents};
 
 use crate::fill::fill_table;
+use crate::memory::SurveyMemory;
 use crate::peel::peel;
 use crate::refusals::SurveyRefusal;
+use maps::chains::Chained;
 use maps::checks::check_links;
+use maps::memory::ListMemory;
 use maps::reading::EMPTY;
 use maps::source::Map;
+
+// The survey's own working memory, large enough for every map.
+#[derive(Drop)]
+struct Work {
+    links: [(u16, u16); 32768],
+    next: [(u16, u16); 32768],
+    head: [u16; 4096],
+    degree: [u16; 4096],
+    places: [u16; 4096],
+}
 
 // Writes 1 for each space whose degree is above `k`, and 0 for each other.
 fn write_set(k: u16, degree: &[u16], set: &mut [u8])
     requires room { length degree.now ≡ length set.old }
     ensures { set.new ≡ bytes (length set.old) (λ v. nat_lt k (slice_index degree.now v)) }
 {
-    for v in 0..degree.len() {
-        set[v] = if degree[v] > k { 1 } else { 0 };
+    for (v, member) in set.iter_mut().enumerate() {
+        *member = u8::from(degree[v] > k);
     }
 }
 
 // Surveys faultless links that are chained, in memory of exactly the size it needs.
 fn survey_parts(
-    links: &[(u16, u16)],
+    chained: &Chained<'_>,
     k: u16,
-    head: &mut [u16],
-    next: &[(u16, u16)],
+    places: &mut [u16],
     degree: &mut [u16],
     order: &mut [u16],
     table: &mut [u16],
     set: &mut [u8],
 ) -> Result<(), SurveyRefusal>
-    requires good { GoodLinks (length order.old) links.now }
-    requires chains { Chains (length order.old) links.now head.old next.now 0 }
-    requires limits { (length order.old ≤ 4096) × (k ≤ 8) × (length links.now ≤ 32768) }
-    requires room { (length head.old ≡ length order.old) × (length next.now ≡ length links.now) × (length degree.old ≡ length order.old) × (length table.old ≡ length order.old * k) × (length set.old ≡ length order.old) }
-    ensures { Parts (length order.old) k links.now order.new table.new set.old set.new result }
+    requires good { GoodLinks (length order.old) chained.now.links.now }
+    requires limits { (length order.old ≤ 4096) × (k ≤ 8) × (length chained.now.links.now ≤ 32768) }
+    requires room { (length places.old ≡ length order.old) × (length degree.old ≡ length order.old) × (length table.old ≡ length order.old * k) × (length set.old ≡ length order.old) }
+    ensures { Parts (length order.old) k chained.now.links.now order.new table.new set.old set.new result }
 {
-    let left = peel(links, k, head, next, degree, order);
-    if left > 0 {
+    let Ok(()) = peel(chained, k, degree, order) else {
         write_set(k, degree, set);
         order.fill(EMPTY);
         table.fill(EMPTY);
         return Err(SurveyRefusal::Dense);
-    }
-    fill_table(links, k, order, head, degree, table);
+    };
+    fill_table(chained.links, k, order, places, degree, table);
     Ok(())
 }
 
-// The checks before the list of links is read, with the lengths of the memory lent.
+// The checks before the list of links is read.
 fn check_call(
     spaces: u32,
     links: u32,
     depth: u16,
-    order: usize,
-    table: usize,
-    set: usize,
-    marks: usize,
+    memory: &SurveyMemory<'_>,
 ) -> Result<(), SurveyRefusal>
-    ensures { Decides (survey_row spaces links depth order table set marks) result }
+    ensures { Decides (survey_row spaces links depth (contents memory.now)) result }
 {
     if depth < 1 || depth > 8 {
         return Err(SurveyRefusal::DepthOutOfRange);
@@ -70,44 +77,58 @@ fn check_call(
         return Err(SurveyRefusal::SizeOutOfRange);
     }
     let n = spaces as usize;
-    if order < n || table < n * depth as usize || set < n || marks < n {
+    let SurveyMemory {
+        order,
+        table,
+        set,
+        marks,
+    } = memory;
+    if order.len() < n || table.len() < n * depth as usize || set.len() < n || marks.len() < n {
         return Err(SurveyRefusal::ShortMemory);
     }
     Ok(())
 }
 
-// Surveys a map whose size is in range, in working memory that is large enough for every such map.
+// Surveys a map whose size is in range, with working memory that is large enough for every such map.
 fn survey_list<M: Map>(
     map: &M,
     depth: u16,
-    links: &mut [(u16, u16)],
-    head: &mut [u16],
-    next: &mut [(u16, u16)],
-    degree: &mut [u16],
-    order: &mut [u16],
-    table: &mut [u16],
-    set: &mut [u8],
-    marks: &mut [u8],
+    work: &mut Work,
+    memory: &mut SurveyMemory<'_>,
 ) -> Result<(), SurveyRefusal>
     requires limits { (depth ≤ 8) × (1 ≤ (M.meaning map.now).spaces) × ((M.meaning map.now).spaces ≤ 4096) × (length (M.meaning map.now).links ≤ 32768) }
-    requires work { (length links.old ≡ 32768) × (length head.old ≡ 4096) × (length next.old ≡ 32768) × (length degree.old ≡ 4096) }
-    requires room { ((M.meaning map.now).spaces ≤ length order.old) × ((M.meaning map.now).spaces * depth ≤ length table.old) × ((M.meaning map.now).spaces ≤ length set.old) × ((M.meaning map.now).spaces ≤ length marks.old) }
-    ensures read_map { ReadMap (M.meaning map.now).spaces depth (M.meaning map.now).links (record { order = order.old; table = table.old; members = set.old; marks = marks.old }) result (record { order = order.new; table = table.new; members = set.new; marks = marks.new }) }
-    ensures cleared { Cleared (M.meaning map.now).spaces marks.old marks.new }
+    requires room { Short (M.meaning map.now).spaces depth (contents memory.old) → ⊥ }
+    ensures read_map { ReadMap (M.meaning map.now).spaces depth (M.meaning map.now).links (contents memory.old) result (contents memory.new) }
+    ensures cleared { Cleared (M.meaning map.now).spaces memory.old.marks.now memory.new.marks.now }
+    ensures same { SameMemory memory.old memory.new }
 {
-    check_links(map, links, head, next, marks)?;
+    check_links(
+        map,
+        &mut ListMemory {
+            links: &mut work.links,
+            head: &mut work.head,
+            next: &mut work.next,
+            marks: memory.marks,
+        },
+    )?;
     let n = map.spaces() as usize;
     let m = map.links() as usize;
     let cells = n * depth as usize;
+    let chained = Chained {
+        links: &work.links[..m],
+        head: &work.head[..n],
+        next: &work.next[..m],
+    };
+    let places = &mut work.places[..];
+    let degree = &mut work.degree[..];
     survey_parts(
-        &links[0..m],
+        &chained,
         depth,
-        &mut head[0..n],
-        &next[0..m],
-        &mut degree[0..n],
-        &mut order[0..n],
-        &mut table[0..cells],
-        &mut set[0..n],
+        &mut places[..n],
+        &mut degree[..n],
+        &mut memory.order[..n],
+        &mut memory.table[..cells],
+        &mut memory.set[..n],
     )
 }
 
@@ -115,36 +136,18 @@ fn survey_list<M: Map>(
 pub fn survey<M: Map>(
     map: &M,
     depth: u16,
-    order: &mut [u16],
-    table: &mut [u16],
-    set: &mut [u8],
-    marks: &mut [u8],
+    memory: &mut SurveyMemory<'_>,
 ) -> Result<(), SurveyRefusal>
-    ensures { Surveyed (M.meaning map.now) depth (record { order = order.old; table = table.old; members = set.old; marks = marks.old }) result (record { order = order.new; table = table.new; members = set.new; marks = marks.new }) }
+    ensures surveyed { Surveyed (M.meaning map.now) depth (contents memory.old) result (contents memory.new) }
+    ensures same { SameMemory memory.old memory.new }
 {
-    check_call(
-        map.spaces(),
-        map.links(),
-        depth,
-        order.len(),
-        table.len(),
-        set.len(),
-        marks.len(),
-    )?;
-    let mut links = [(0u16, 0u16); 32768];
-    let mut head = [0u16; 4096];
-    let mut next = [(0u16, 0u16); 32768];
-    let mut degree = [0u16; 4096];
-    survey_list(
-        map,
-        depth,
-        &mut links,
-        &mut head,
-        &mut next,
-        &mut degree,
-        order,
-        table,
-        set,
-        marks,
-    )
+    check_call(map.spaces(), map.links(), depth, memory)?;
+    let mut work = Work {
+        links: [(0, 0); 32768],
+        next: [(0, 0); 32768],
+        head: [0; 4096],
+        degree: [0; 4096],
+        places: [0; 4096],
+    };
+    survey_list(map, depth, &mut work, memory)
 }

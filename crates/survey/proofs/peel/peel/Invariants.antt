@@ -2,8 +2,5 @@ use Rattle.std.proofs.Common.{length}
 use Rattle.survey.specs.Walk.{Work}
 use Rattle.survey.proofs.peel.peel.Given as goal
 
-abbrev pub invariant-loop-queued : goal.invariant-loop-queued
-invariant-loop-queued l = Work l.k (length l.initial.order) l.links l.order l.degree l.settled l.queued
-
-abbrev pub decreases-loop-queued : goal.decreases-loop-queued
-decreases-loop-queued l = l.settled
+abbrev pub invariant-loop-settled : goal.invariant-loop-settled
+invariant-loop-settled l = Work l.k (length l.initial.order) l.chained.links.now l.order l.degree l.settled l.queued
