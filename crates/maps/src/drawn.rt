@@ -20,17 +20,7 @@ impl<'a> DrawnMap<'a> {
         ensures spaces { result.spaces ≡ spaces }
         ensures ends { result.ends.now ≡ ends.now }
     {
-        see_ends(ends);
         DrawnMap { spaces, ends }
-    }
-}
-
-// Each number fits 16 bits. The proof learns that of a number where it is read; compiled, the loop does nothing.
-fn see_ends(ends: &[u16])
-    ensures { (i : ℕ) → i < length ends.now → slice_index ends.now i < 2 ^ 16 }
-{
-    for end in ends {
-        let _read = *end;
     }
 }
 
