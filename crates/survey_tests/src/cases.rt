@@ -1,5 +1,5 @@
 use crate::build::{circle, hubs, path, steps};
-use crate::judge::{Memory, Part, is_right};
+use crate::judge::{Memory, Part, is_right, used};
 use maps::drawn::DrawnMap;
 use maps::hex::HexSheet;
 use maps::source::Map;
@@ -110,9 +110,8 @@ fn try_map<M: Map>(
     lack: Option<Part>,
 ) -> anyhow::Result<()> {
     let heap = rt.alloc();
-    let n = map.spaces().min(5000) as usize;
-    let cells = n * depth.min(9) as usize;
-    let mut memory = Memory::new(heap, n, cells, lack)?;
+    let (spaces, cells) = used(map, depth);
+    let mut memory = Memory::new(heap, spaces, cells, lack)?;
     let reply = memory.survey(map, depth);
     print!(rt; "{name}: ")?;
     match reply {

@@ -110,6 +110,12 @@ fn is_tabled<M: Map>(map: &M, table: &[u16], k: u16) -> bool {
         })
 }
 
+// How many spaces and cells of its memory a survey uses.
+pub(crate) fn used<M: Map>(map: &M, depth: u16) -> (usize, usize) {
+    let n = map.spaces().min(5000) as usize;
+    (n, n * depth.min(9) as usize)
+}
+
 // Each of these is `x`.
 fn all_are<T: Copy + PartialEq>(cells: &[T], x: T) -> bool {
     cells.iter().all(|cell| *cell == x)
@@ -128,8 +134,7 @@ pub(crate) fn is_right<M: Map>(
     memory: &Memory,
     reply: Result<(), SurveyRefusal>,
 ) -> Result<bool, AllocError> {
-    let n = map.spaces().min(5000) as usize;
-    let cells = n * k.min(9) as usize;
+    let (n, cells) = used(map, k);
     let (order, past_order) = parted(&memory.order, n);
     let (table, past_table) = parted(&memory.table, cells);
     let (set, past_set) = parted(&memory.set, n);
