@@ -1,4 +1,4 @@
-ghost use Rattle.std.specs.Prelude.{◌≡◌, ℕ, ◌+◌, ◌*◌, ◌<◌, length, MatchOption, ◌≢◌, slice_index};
+ghost use Rattle.std.specs.Prelude.{◌≡◌, ◌==◌, ℕ, ◌+◌, ◌*◌, ◌<◌, drop, length, position, take, MatchOption, ◌≢◌, slice_index};
 ghost use Rattle.std.specs.Iterator.{IsFinite};
 
 use crate::request::{Ground, Request};
@@ -22,7 +22,8 @@ struct Table<'a> {
 impl Table<'_> {
     // The first place in the row of `a` whose cell names `b`.
     fn place_in_row(&self, a: u16, b: u16) -> Option<usize>
-        ensures { MatchOption result ((p : ℕ) → p < self.now.depth → a * self.now.depth + p < length self.now.cells.now → slice_index self.now.cells.now (a * self.now.depth + p) ≢ b) (λ p. (p < self.now.depth) × (a * self.now.depth + p < length self.now.cells.now) × (slice_index self.now.cells.now (a * self.now.depth + p) ≡ b)) }
+        ensures first { result ≡ position (λ c. c == b) (take self.now.depth (drop (a * self.now.depth) self.now.cells.now)) }
+        ensures cell { let k = self.now.depth in let cells = self.now.cells.now in MatchOption result ((p : ℕ) → p < k → a * k + p < length cells → slice_index cells (a * k + p) ≢ b) (λ p. (p < k) × (a * k + p < length cells) × (slice_index cells (a * k + p) ≡ b)) }
     {
         let depth = self.depth as usize;
         let mut row = self.cells.iter().skip(a as usize * depth).take(depth);

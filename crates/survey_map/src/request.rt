@@ -12,12 +12,12 @@ pub(crate) enum Fault {
 
 impl fmt::Display for Fault {
     fn fmt<W: fmt::Write>(&self, f: &mut fmt::Formatter<W>) -> fmt::Result {
-        match self {
-            Fault::NoDepth => f.write_str("a depth is wanted, as 3"),
-            Fault::NoGround => f.write_str("a size is wanted, as hex 3 3 or spaces 9"),
-            Fault::NoPair => f.write_str("two spaces are wanted, as 0 1 or ? 0 1"),
-            Fault::NoMemory => f.write_str("there is no memory for it"),
-        }
+        f.write_str(match self {
+            Fault::NoDepth => "a depth is wanted, as 3",
+            Fault::NoGround => "a size is wanted, as hex 3 3 or spaces 9",
+            Fault::NoPair => "two spaces are wanted, as 0 1 or ? 0 1",
+            Fault::NoMemory => "there is no memory for it",
+        })
     }
 }
 

@@ -158,19 +158,16 @@ pub(crate) fn run_cases(rt: &HostRuntime) -> anyhow::Result<()> {
 }
 
 fn try_hex(rt: &HostRuntime) -> anyhow::Result<()> {
-    if let Ok(sheet) = HexSheet::new(3, 3) {
-        try_map(rt, "3 by 3 hexes at 2", &sheet, 2, None)?;
-        try_map(rt, "3 by 3 hexes at 3", &sheet, 3, None)?;
-        try_map(rt, "in a short order", &sheet, 3, Some(Part::Order))?;
-        try_map(rt, "in a short table", &sheet, 3, Some(Part::Table))?;
-        try_map(rt, "in a short set", &sheet, 3, Some(Part::Set))?;
-        try_map(rt, "with short marks", &sheet, 3, Some(Part::Marks))?;
-    }
-    if let Ok(sheet) = HexSheet::new(64, 64) {
-        try_map(rt, "64 by 64 hexes at 2", &sheet, 2, None)?;
-        try_map(rt, "64 by 64 hexes at 3", &sheet, 3, None)?;
-    }
-    Ok(())
+    let sheet = HexSheet::new(3, 3).unwrap();
+    try_map(rt, "3 by 3 hexes at 2", &sheet, 2, None)?;
+    try_map(rt, "3 by 3 hexes at 3", &sheet, 3, None)?;
+    try_map(rt, "in a short order", &sheet, 3, Some(Part::Order))?;
+    try_map(rt, "in a short table", &sheet, 3, Some(Part::Table))?;
+    try_map(rt, "in a short set", &sheet, 3, Some(Part::Set))?;
+    try_map(rt, "with short marks", &sheet, 3, Some(Part::Marks))?;
+    let sheet = HexSheet::new(64, 64).unwrap();
+    try_map(rt, "64 by 64 hexes at 2", &sheet, 2, None)?;
+    try_map(rt, "64 by 64 hexes at 3", &sheet, 3, None)
 }
 
 // Maps that are built: hex sheets, and the largest that are allowed.
