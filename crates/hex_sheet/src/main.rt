@@ -1,38 +1,34 @@
 // Prints a hex sheet as an artist checks it against the drawing: its size, each link and each centre.
 #![tactic(auto)]
 
-use anyhow::anyhow;
+use anyhow::{Context, bail};
+use maps::centre::Centre;
 use maps::hex::HexSheet;
 use maps::source::Map;
 use std::{env, io};
 
 // One line for each link, in the sheet's order.
 fn print_links(rt: &impl Print, sheet: &HexSheet) -> io::Result<()> {
-    for place in 0..sheet.links() {
-        if let Some((a, b)) = sheet.pair(place) {
-            println!(rt; "link {place}: {a} - {b}")?;
-        }
+    let links = (0..sheet.links()).filter_map(|place| sheet.pair(place));
+    for (place, (a, b)) in links.enumerate() {
+        println!(rt; "link {place}: {a} - {b}")?;
     }
     Ok(())
 }
 
 // One line for each space, with its centre in tile widths and heights.
 fn print_centres(rt: &impl Print, sheet: &HexSheet) -> io::Result<()> {
-    for space in 0..4096u16 {
-        let Ok(centre) = sheet.centre(space) else {
-            break;
-        };
-        let x = centre.x;
-        let y = centre.y;
+    for space in 0..sheet.spaces() as u16 {
+        let Centre { x, y } = sheet.centre(space).unwrap();
         println!(rt; "space {space}: x {x}, y {y}")?;
     }
     Ok(())
 }
 
 fn print_sheet(rt: &impl Print, width: u16, height: u16) -> anyhow::Result<()> {
-    let Ok(sheet) = HexSheet::new(width, height) else {
-        return Err(anyhow!("refused with 10: width and height are 1 to 64"));
-    };
+    let sheet = HexSheet::new(width, height)
+        .ok()
+        .context("refused with 10: width and height are 1 to 64")?;
     let spaces = sheet.spaces();
     let links = sheet.links();
     println!(rt; "hex sheet {width} by {height}: {spaces} spaces, {links} links")?;
@@ -45,7 +41,7 @@ fn run(rt: &HostRuntime) -> anyhow::Result<()> {
     let mut args = env::args(rt)?;
     let _program = args.next();
     let (Some(width), Some(height)) = (args.next(), args.next()) else {
-        return Err(anyhow!("usage: hex_sheet WIDTH HEIGHT"));
+        bail!("usage: hex_sheet WIDTH HEIGHT");
     };
     print_sheet(rt, width.parse::<u16>()?, height.parse::<u16>()?)
 }

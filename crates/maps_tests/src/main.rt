@@ -1,12 +1,16 @@
 // Runs the library of maps on worked cases and prints what it got; the stored output has what the rules say.
 #![tactic(auto)]
 
+ghost use Rattle.std.specs.Prelude.{◌≤◌};
+
+use maps::centre::Centre;
 use maps::checks::check_links;
 use maps::drawn::DrawnMap;
 use maps::hex::HexSheet;
 use maps::reading::read_link;
+use maps::refusals::ListRefusal;
 use maps::source::Map;
-use std::io;
+use std::{io, iter};
 
 // The numbers that a source tells, and its pairs at some places.
 fn print_map<M: Map>(rt: &impl Print, name: &str, map: &M, places: &[u32]) -> io::Result<()> {
@@ -54,11 +58,7 @@ fn print_centre(rt: &impl Print, width: u16, height: u16, space: u16) -> io::Res
         return println!(rt; "{width} by {height} refused");
     };
     match sheet.centre(space) {
-        Ok(centre) => {
-            let x = centre.x;
-            let y = centre.y;
-            println!(rt; "{width} by {height}, space {space}: {x} {y}")
-        }
+        Ok(Centre { x, y }) => println!(rt; "{width} by {height}, space {space}: {x} {y}"),
         Err(_) => println!(rt; "{width} by {height}, space {space}: refused"),
     }
 }
@@ -91,14 +91,25 @@ fn drawn_maps(rt: &impl Print) -> io::Result<()> {
     )
 }
 
-// The reply to a list of links, with room for eight, and the marks, of which the last two are past the spaces.
-fn print_check(rt: &impl Print, spaces: u32, ends: &[u16]) -> io::Result<()> {
-    let mut links = [(0u16, 0u16); 8];
-    let mut head = [0u16; 8];
-    let mut next = [(0u16, 0u16); 8];
-    let mut marks = [9u8; 8];
+// The reply to a list of links, with room for so many links and spaces.
+fn reply_to<const LINKS: usize, const SPACES: usize>(
+    spaces: u32,
+    ends: &[u16],
+    marks: &mut [u8; SPACES],
+) -> Result<(), ListRefusal>
+    requires { (LINKS ≤ 32768) × (SPACES ≤ 4096) }
+{
+    let mut links = [(0u16, 0u16); LINKS];
+    let mut head = [0u16; SPACES];
+    let mut next = [(0u16, 0u16); LINKS];
     let map = DrawnMap::new(spaces, ends);
-    let reply = check_links(&map, &mut links, &mut head, &mut next, &mut marks);
+    check_links(&map, &mut links, &mut head, &mut next, marks)
+}
+
+// The reply with room for eight, and the marks, of which the last two are past the spaces.
+fn print_check(rt: &impl Print, spaces: u32, ends: &[u16]) -> io::Result<()> {
+    let mut marks = [9u8; 8];
+    let reply = reply_to::<8, 8>(spaces, ends, &mut marks);
     println!(rt; "{spaces} spaces, {ends:?}: {reply:?}, marks {marks:?}")
 }
 
@@ -126,43 +137,28 @@ fn checks(rt: &impl Print) -> io::Result<()> {
 
 // A list of the largest size, of which the last link may repeat the first.
 fn print_large(rt: &impl Print, name: &str, spaces: u32, ends: &[u16]) -> io::Result<()> {
-    let mut links = [(0u16, 0u16); 32768];
-    let mut head = [0u16; 4096];
-    let mut next = [(0u16, 0u16); 32768];
-    let mut marks = [1u8; 4096];
-    let map = DrawnMap::new(spaces, ends);
-    let reply = check_links(&map, &mut links, &mut head, &mut next, &mut marks);
+    let reply = reply_to::<32768, 4096>(spaces, ends, &mut [1u8; 4096]);
     println!(rt; "{name}: {reply:?}")
+}
+
+// Writes links one after the other, two numbers to each.
+fn draw<I: Iterator<Item = (u16, u16)> + Drop>(ends: &mut [u16], links: I)
+    requires { I.can_next links }
+{
+    for (link, (a, b)) in ends.chunks_exact_mut(2).zip(links) {
+        link.copy_from_slice(&[a, b]);
+    }
 }
 
 // The links 0-1, 1-2 and so on, to 4094-4095.
 fn draw_path(ends: &mut [u16]) {
-    for i in 0..4095u16 {
-        let at = 2 * i as usize;
-        if at + 1 < ends.len() {
-            ends[at] = i;
-            ends[at + 1] = i + 1;
-        }
-    }
+    draw(ends, (0..4095).map(|v| (v, v + 1)));
 }
 
 // Each two of 255 spaces, the higher first, by the higher; what follows is filled with the link 0-254.
 fn draw_clique(ends: &mut [u16]) {
-    let mut a = 1u16;
-    let mut b = 0u16;
-    for i in 0..ends.len() / 2 {
-        ends[2 * i] = a;
-        ends[2 * i + 1] = b;
-        b = b.saturating_add(1);
-        if b == a {
-            a = a.saturating_add(1);
-            b = 0;
-        }
-        if a == 255 {
-            a = 0;
-            b = 254;
-        }
-    }
+    let clique = (1..255).flat_map(|a| (0..a).map(move |b| (a, b)));
+    draw(ends, clique.chain(iter::repeat((0, 254))));
 }
 
 fn large_lists(rt: &impl Print) -> io::Result<()> {

@@ -1,5 +1,6 @@
 -- The numbers of the refusals, and the places that they name. Assumes nothing.
-use Rattle.std.specs.Prelude.{◌≡◌, ℕ, Some, None, Ok, Err, Option, Result}
+use Rattle.std.specs.Prelude.{◌≡◌, ℕ, List, ◌++◌, codes, Some, None, Ok, Err, Option, Result}
+use Rattle.std.specs.Fmt.{decimal}
 use Rattle.maps.specs.declared.refusals.ListRefusal.{ListRefusal}
 use Rattle.maps.specs.declared.refusals.ListRefusal.TheVariants as list
 use Rattle.survey.specs.declared.refusals.SurveyRefusal.{SurveyRefusal}
@@ -26,6 +27,15 @@ survey_place (survey.EndOutOfRange place) = Some place
 survey_place (survey.EqualEnds place) = Some place
 survey_place (survey.RepeatedLink place) = Some place
 survey_place survey.Dense = None
+
+-- a number, and the place beside it if there is one, as they are printed
+abbrev pub number_text : ℕ → Option ℕ → List ℕ
+number_text number None = decimal number
+number_text number (Some place) = decimal number ++ codes " at link " ++ decimal place
+
+-- what is printed for a refusal
+abbrev pub survey_text : SurveyRefusal → List ℕ
+survey_text e = number_text (survey_number e) (survey_place e)
 
 -- the refusal of a list of links, as one of the survey
 abbrev pub from_list : ListRefusal → SurveyRefusal

@@ -1,7 +1,9 @@
-ghost use Rattle.survey.specs.Refusals.{from_list, look_up_number, survey_number, survey_place};
-ghost use Rattle.std.specs.Prelude.{◌≡◌};
+ghost use Rattle.std.specs.Fmt.{decimal};
+ghost use Rattle.std.specs.Prelude.{◌≡◌, Some};
+ghost use Rattle.survey.specs.Refusals.{from_list, look_up_number, survey_number, survey_place, survey_text};
 
 use maps::refusals::ListRefusal;
+use std::fmt;
 
 // Why a map is not surveyed. A place counts from 0 in the map's list of links.
 #[derive(Clone, Copy, Debug, PartialEq, Eq)]
@@ -16,7 +18,7 @@ pub enum SurveyRefusal {
 }
 
 impl SurveyRefusal {
-    // The refusal's number.
+    // The refusal's number. A case that holds a place cannot be cast, so the numbers stand in a match.
     pub fn number(&self) -> u8
         ensures { result ≡ survey_number self.now }
     {
@@ -36,22 +38,35 @@ impl SurveyRefusal {
         ensures { result ≡ survey_place self.now }
     {
         match self {
-            SurveyRefusal::EndOutOfRange { place } => Some(*place),
-            SurveyRefusal::EqualEnds { place } => Some(*place),
-            SurveyRefusal::RepeatedLink { place } => Some(*place),
+            SurveyRefusal::EndOutOfRange { place }
+            | SurveyRefusal::EqualEnds { place }
+            | SurveyRefusal::RepeatedLink { place } => Some(*place),
             _ => None,
         }
     }
 }
 
-// Why a surveyed table is not read.
+// The refusal's number, and the place that it names.
+impl fmt::Display for SurveyRefusal {
+    ghost output = { λ e. Some (survey_text e) };
+
+    fn fmt<W: fmt::Write>(&self, f: &mut fmt::Formatter<W>) -> fmt::Result {
+        let number = self.number();
+        match self.place() {
+            Some(place) => write!(f, "{number} at link {place}"),
+            None => write!(f, "{number}"),
+        }
+    }
+}
+
+// Why a surveyed table is not read, each with its number.
 #[derive(Clone, Copy, Debug, PartialEq, Eq)]
 pub enum LookUpRefusal {
-    DepthOutOfRange,
-    SizeOutOfRange,
-    ShortTable,
-    EndOutOfRange,
-    EqualEnds,
+    DepthOutOfRange = 20,
+    SizeOutOfRange = 10,
+    ShortTable = 21,
+    EndOutOfRange = 11,
+    EqualEnds = 12,
 }
 
 impl LookUpRefusal {
@@ -59,13 +74,16 @@ impl LookUpRefusal {
     pub fn number(&self) -> u8
         ensures { result ≡ look_up_number self.now }
     {
-        match self {
-            LookUpRefusal::DepthOutOfRange => 20,
-            LookUpRefusal::SizeOutOfRange => 10,
-            LookUpRefusal::ShortTable => 21,
-            LookUpRefusal::EndOutOfRange => 11,
-            LookUpRefusal::EqualEnds => 12,
-        }
+        *self as u8
+    }
+}
+
+// The refusal's number.
+impl fmt::Display for LookUpRefusal {
+    ghost output = { λ e. Some (decimal (look_up_number e)) };
+
+    fn fmt<W: fmt::Write>(&self, f: &mut fmt::Formatter<W>) -> fmt::Result {
+        write!(f, "{}", self.number())
     }
 }
 

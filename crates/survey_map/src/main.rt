@@ -2,36 +2,40 @@
 #![tactic(auto)]
 
 use crate::report::report;
-use crate::request::Request;
-use std::alloc::Global;
+use crate::request::Stage;
 
 mod report;
 mod request;
 
-// Reports on a map that is complete, and begins the next.
-fn finish(rt: &HostRuntime, request: Request, heap: Global) -> anyhow::Result<Request> {
-    if request.is_ready() {
-        report(rt, heap, &request)?;
+// Reports on a map whose text has ended, if its depth and size were read and no line was faulty.
+fn finish(rt: &HostRuntime, stage: Stage) -> anyhow::Result<()> {
+    match stage {
+        Stage::Pairs(request) => report(rt, &request),
+        _ => Ok(()),
     }
-    Ok(Request::new(heap))
 }
 
 // Reads the text line by line; an empty line ends a map.
 fn run(rt: &HostRuntime) -> anyhow::Result<()> {
     let heap = rt.alloc();
-    let mut request = Request::new(heap);
-    let mut number = 0u64;
-    for line in rt.lines(heap) {
+    let mut stage = Stage::Start;
+    for (i, line) in rt.lines(heap).enumerate() {
         let line = line?;
-        number = number.saturating_add(1);
         if line.is_empty() {
-            request = finish(rt, request, heap)?;
-        } else if let Err(fault) = request.read(line.as_str()) {
-            println!(rt; "line {number}: {fault}")?;
+            finish(rt, stage)?;
+            stage = Stage::Start;
+            continue;
         }
+        stage = match stage.read(heap, line.as_str()) {
+            Ok(next) => next,
+            Err(fault) => {
+                let number = i.saturating_add(1);
+                println!(rt; "line {number}: {fault}")?;
+                Stage::Faulty
+            }
+        };
     }
-    let _last = finish(rt, request, heap)?;
-    Ok(())
+    finish(rt, stage)
 }
 
 fn main(rt: HostRuntime) -> anyhow::Result<()> {

@@ -1,149 +1,116 @@
-ghost use Rattle.std.specs.Prelude.{◌≡◌, ℕ, ◌+◌, ◌*◌, ◌<◌, length, MatchOption, ◌≢◌, slice_index};
+ghost use Rattle.std.specs.Prelude.{◌≡◌, ◌==◌, ℕ, ◌+◌, ◌*◌, ◌<◌, drop, length, position, take, MatchOption, ◌≢◌, slice_index};
+ghost use Rattle.std.specs.Iterator.{IsFinite};
 
 use crate::request::{Ground, Request};
 use maps::drawn::DrawnMap;
 use maps::hex::HexSheet;
 use maps::reading::EMPTY;
 use maps::source::Map;
-use std::alloc::{AllocError, Global};
+use std::fmt::Display;
 use survey::look_up::look_up;
 use survey::refusals::SurveyRefusal;
 use survey::survey::survey;
 
-// What a survey wrote, and its reply.
-#[derive(Drop)]
-struct Chart {
-    reply: Result<(), SurveyRefusal>,
-    order: Vec<u16>,
-    table: Vec<u16>,
-    set: Vec<u8>,
+// The table that a survey wrote of so many spaces, at this depth.
+#[derive(Clone, Copy)]
+struct Table<'a> {
+    spaces: u32,
+    depth: u16,
+    cells: &'a [u16],
 }
 
-// Surveys a map in memory of its own.
-fn chart_of<M: Map>(heap: Global, map: &M, depth: u16) -> Result<Chart, AllocError> {
-    let n = map.spaces().min(4096) as usize;
-    let cells = n * depth.min(8) as usize;
-    let mut order = vec![in heap; 0u16; n]?;
-    let mut table = vec![in heap; 0u16; cells]?;
-    let mut set = vec![in heap; 0u8; n]?;
-    let mut marks = vec![in heap; 0u8; n]?;
-    let reply = survey(
-        map,
-        depth,
-        order.as_mut_slice(),
-        table.as_mut_slice(),
-        set.as_mut_slice(),
-        marks.as_mut_slice(),
-    );
-    Ok(Chart {
-        reply,
-        order,
-        table,
-        set,
-    })
+impl Table<'_> {
+    // The first place in the row of `a` whose cell names `b`.
+    fn place_in_row(&self, a: u16, b: u16) -> Option<usize>
+        ensures first { result ≡ position (λ c. c == b) (take self.now.depth (drop (a * self.now.depth) self.now.cells.now)) }
+        ensures cell { let k = self.now.depth in let cells = self.now.cells.now in MatchOption result ((p : ℕ) → p < k → a * k + p < length cells → slice_index cells (a * k + p) ≢ b) (λ p. (p < k) × (a * k + p < length cells) × (slice_index cells (a * k + p) ≡ b)) }
+    {
+        let depth = self.depth as usize;
+        let mut row = self.cells.iter().skip(a as usize * depth).take(depth);
+        row.position(|cell| *cell == b)
+    }
 }
 
 // Surveys the map that was asked for, and prints what came of it.
-pub(crate) fn report(rt: &HostRuntime, heap: Global, request: &Request) -> anyhow::Result<()> {
+pub(crate) fn report(rt: &HostRuntime, request: &Request) -> anyhow::Result<()> {
     let depth = request.depth;
     match request.ground {
         Ground::Hex { width, height } => {
             println!(rt; "hex sheet of {width} by {height}, depth {depth}")?;
             match HexSheet::new(width, height) {
-                Ok(sheet) => report_map(rt, heap, &sheet, request)?,
+                Ok(sheet) => report_map(rt, &sheet, request)?,
                 Err(_) => println!(rt; "refused 10")?,
             }
         }
         Ground::Drawn { spaces } => {
             println!(rt; "drawn map of {spaces} spaces, depth {depth}")?;
             let map = DrawnMap::new(spaces, request.ends.as_slice());
-            report_map(rt, heap, &map, request)?;
+            report_map(rt, &map, request)?;
         }
     }
     println!(rt; "")?;
     Ok(())
 }
 
-fn report_map<M: Map>(
-    rt: &HostRuntime,
-    heap: Global,
-    map: &M,
-    request: &Request,
-) -> anyhow::Result<()> {
+// Surveys a map in memory of its own.
+fn report_map<M: Map>(rt: &HostRuntime, map: &M, request: &Request) -> anyhow::Result<()> {
+    let heap = rt.alloc();
+    let spaces = map.spaces();
     let depth = request.depth;
-    let chart = chart_of(heap, map, depth)?;
-    let reply = chart.reply;
-    let table = chart.table.as_slice();
-    match reply {
+    let n = spaces.min(4096) as usize;
+    let mut order = vec![in heap; 0u16; n]?;
+    let mut cells = vec![in heap; 0u16; n * depth.min(8) as usize]?;
+    let mut set = vec![in heap; 0u8; n]?;
+    let mut marks = vec![in heap; 0u8; n]?;
+    match survey(map, depth, &mut order, &mut cells, &mut set, &mut marks) {
         Ok(()) => {
-            print_order(rt, chart.order.as_slice())?;
-            print_rows(rt, table, depth)?;
-            print_colours(rt, map, table, depth)?;
-            for question in request.questions.as_slice() {
-                print_answer(rt, map.spaces(), depth, table, *question)?;
-            }
+            let table = Table {
+                spaces,
+                depth,
+                cells: &cells,
+            };
+            print!(rt; "accepted, order")?;
+            print_items(rt, order.iter())?;
+            print_rows(rt, &table)?;
+            print_colours(rt, map, &table)?;
+            print_answers(rt, &table, &request.questions)
         }
-        Err(refusal) => print_refusal(rt, refusal, chart.set.as_slice())?,
+        Err(refusal) => print_refusal(rt, refusal, &set),
     }
-    Ok(())
 }
 
-// Prints the order on one line.
-fn print_order(rt: &HostRuntime, order: &[u16]) -> anyhow::Result<()> {
-    print!(rt; "accepted, order")?;
-    for space in order {
-        print!(rt; " {space}")?;
+// Prints the rest of a line: each item after a space.
+fn print_items<T: Display + Drop, I: Iterator<Item = T> + Drop>(
+    rt: &HostRuntime,
+    items: I,
+) -> anyhow::Result<()>
+    requires can { I.can_next items }
+    requires ends { IsFinite (I.remaining items) }
+{
+    for item in items {
+        print!(rt; " {item}")?;
     }
     println!(rt; "")?;
     Ok(())
 }
 
 // Prints the filled cells of each space's row.
-fn print_rows(rt: &HostRuntime, table: &[u16], depth: u16) -> anyhow::Result<()> {
-    let mut cells = table.chunks(depth.max(1) as usize);
-    for space in 0..4096 {
-        let Some(row) = cells.next() else {
-            return Ok(());
-        };
+fn print_rows(rt: &HostRuntime, table: &Table<'_>) -> anyhow::Result<()> {
+    let rows = table.cells.chunks(table.depth.max(1) as usize);
+    for (space, row) in rows.enumerate() {
         print!(rt; "row {space}:")?;
-        for cell in row {
-            if *cell != EMPTY {
-                print!(rt; " {cell}")?;
-            }
-        }
-        println!(rt; "")?;
+        print_items(rt, row.iter().filter(|cell| **cell != EMPTY))?;
     }
     Ok(())
 }
 
-// The first place in the row of `a` whose cell names `b`.
-fn place_in_row(table: &[u16], depth: u16, a: u16, b: u16) -> Option<u16>
-    ensures { MatchOption result ((p : ℕ) → p < depth → a * depth + p < length table.now → slice_index table.now (a * depth + p) ≢ b) (λ p. (p < depth) × (a * depth + p < length table.now) × (slice_index table.now (a * depth + p) ≡ b)) }
-{
-    for place in 0..depth {
-        let cell = a as usize * depth as usize + place as usize;
-        if cell < table.len() && table[cell] == b {
-            return Some(place);
-        }
-    }
-    None
-}
-
 // Prints each link with its colour.
-fn print_colours<M: Map>(
-    rt: &HostRuntime,
-    map: &M,
-    table: &[u16],
-    depth: u16,
-) -> anyhow::Result<()> {
-    for place in 0..map.links() {
-        let Some((a, b)) = map.pair(place) else {
-            return Ok(());
-        };
-        let colour = match place_in_row(table, depth, a, b) {
-            Some(colour) => Some(colour),
-            None => place_in_row(table, depth, b, a),
-        };
+fn print_colours<M: Map>(rt: &HostRuntime, map: &M, table: &Table<'_>) -> anyhow::Result<()> {
+    let links = (0..map.links()).filter_map(|place| map.pair(place));
+    for (a, b) in links {
+        let colour = table
+            .place_in_row(a, b)
+            .or_else(|| table.place_in_row(b, a));
         if let Some(colour) = colour {
             println!(rt; "link {a}-{b}: colour {colour}")?;
         }
@@ -151,43 +118,32 @@ fn print_colours<M: Map>(
     Ok(())
 }
 
-// Prints the refusal's number, the place that it names, and the set of a dense map.
+// Prints the refusal, and the set of a dense map.
 fn print_refusal(rt: &HostRuntime, refusal: SurveyRefusal, set: &[u8]) -> anyhow::Result<()> {
-    let number = refusal.number();
-    print!(rt; "refused {number}")?;
-    if let Some(place) = refusal.place() {
-        print!(rt; " at link {place}")?;
-    }
+    print!(rt; "refused {refusal}")?;
     if refusal == SurveyRefusal::Dense {
         print!(rt; ", set")?;
-        for (space, member) in set.iter().enumerate() {
-            if *member == 1 {
-                print!(rt; " {space}")?;
-            }
-        }
+        let members = set.iter().enumerate().filter(|(_, member)| **member == 1);
+        return print_items(rt, members.map(|(space, _)| space));
     }
     println!(rt; "")?;
     Ok(())
 }
 
-// Prints whether two spaces are linked, and how many cells were read to tell.
-fn print_answer(
+// Prints of each two spaces whether they are linked, and how many cells were read to tell.
+fn print_answers(
     rt: &HostRuntime,
-    spaces: u32,
-    depth: u16,
-    table: &[u16],
-    question: (u16, u16),
+    table: &Table<'_>,
+    questions: &[(u16, u16)],
 ) -> anyhow::Result<()> {
-    let (a, b) = question;
-    match look_up(spaces, depth, table, a, b) {
-        Ok(reading) => {
-            let answer = if reading.linked { "yes" } else { "no" };
-            let cells = reading.cells;
-            println!(rt; "{a}-{b}: {answer}, cells read: {cells}")?;
-        }
-        Err(refusal) => {
-            let number = refusal.number();
-            println!(rt; "{a}-{b}: refused {number}")?;
+    for (a, b) in questions {
+        match look_up(table.spaces, table.depth, table.cells, *a, *b) {
+            Ok(reading) => {
+                let answer = if reading.linked { "yes" } else { "no" };
+                let cells = reading.cells;
+                println!(rt; "{a}-{b}: {answer}, cells read: {cells}")?;
+            }
+            Err(refusal) => println!(rt; "{a}-{b}: refused {refusal}")?,
         }
     }
     Ok(())

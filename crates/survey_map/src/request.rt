@@ -12,17 +12,23 @@ pub(crate) enum Fault {
 
 impl fmt::Display for Fault {
     fn fmt<W: fmt::Write>(&self, f: &mut fmt::Formatter<W>) -> fmt::Result {
-        match self {
-            Fault::NoDepth => f.write_str("a depth is wanted, as 3"),
-            Fault::NoGround => f.write_str("a size is wanted, as hex 3 3 or spaces 9"),
-            Fault::NoPair => f.write_str("two spaces are wanted, as 0 1 or ? 0 1"),
-            Fault::NoMemory => f.write_str("there is no memory for it"),
-        }
+        f.write_str(match self {
+            Fault::NoDepth => "a depth is wanted, as 3",
+            Fault::NoGround => "a size is wanted, as hex 3 3 or spaces 9",
+            Fault::NoPair => "two spaces are wanted, as 0 1 or ? 0 1",
+            Fault::NoMemory => "there is no memory for it",
+        })
     }
 }
 
 impl<T: Drop> From<AllocFailed<T>> for Fault {
     fn from(_e: AllocFailed<T>) -> Fault {
+        Fault::NoMemory
+    }
+}
+
+impl From<AllocError> for Fault {
+    fn from(_e: AllocError) -> Fault {
         Fault::NoMemory
     }
 }
@@ -34,31 +40,32 @@ pub(crate) enum Ground {
     Drawn { spaces: u32 },
 }
 
-// Which line comes next.
-#[derive(Clone, Copy)]
-enum Stage {
-    Depth,
-    Size,
-    Pairs,
-    Faulty,
-}
-
 // A map as its text gives it, and the look-ups on its table.
 #[derive(Drop)]
 pub(crate) struct Request {
-    stage: Stage,
     pub depth: u16,
     pub ground: Ground,
     pub ends: Vec<u16>,
     pub questions: Vec<(u16, u16)>,
 }
 
+// What was read of a map so far.
+#[derive(Drop)]
+pub(crate) enum Stage {
+    // No line: the depth comes next.
+    Start,
+    // The depth: the size comes next.
+    Depth(u16),
+    // Depth and size: links and look-ups come.
+    Pairs(Request),
+    // A faulty line: the rest of the map is passed over.
+    Faulty,
+}
+
 // Two numbers with a space between them.
 fn two_numbers(text: &str) -> Option<(u16, u16)> {
     let (first, second) = text.split_once(' ')?;
-    let first = first.parse::<u16>().ok()?;
-    let second = second.parse::<u16>().ok()?;
-    Some((first, second))
+    Some((first.parse::<u16>().ok()?, second.parse::<u16>().ok()?))
 }
 
 // A size: a hex sheet's, or a number of spaces.
@@ -72,48 +79,14 @@ fn ground_of(line: &str) -> Option<Ground> {
 }
 
 impl Request {
-    pub(crate) fn new(heap: Global) -> Request {
+    // A map of which depth and size are known.
+    fn new(heap: Global, depth: u16, ground: Ground) -> Request {
         Request {
-            stage: Stage::Depth,
-            depth: 0,
-            ground: Ground::Drawn { spaces: 0 },
+            depth,
+            ground,
             ends: Vec::new(heap),
             questions: Vec::new(heap),
         }
-    }
-
-    // Depth and size were read, and no line was faulty.
-    pub(crate) fn is_ready(&self) -> bool {
-        match self.stage {
-            Stage::Pairs => true,
-            _ => false,
-        }
-    }
-
-    // Reads the next line of the text. After a faulty line the rest of the map is passed over.
-    pub(crate) fn read(&mut self, line: &str) -> Result<(), Fault> {
-        let read = match self.stage {
-            Stage::Depth => self.read_depth(line),
-            Stage::Size => self.read_size(line),
-            Stage::Pairs => self.read_pair(line),
-            Stage::Faulty => Ok(()),
-        };
-        if read.is_err() {
-            self.stage = Stage::Faulty;
-        }
-        read
-    }
-
-    fn read_depth(&mut self, line: &str) -> Result<(), Fault> {
-        self.depth = line.parse::<u16>().ok().ok_or(Fault::NoDepth)?;
-        self.stage = Stage::Size;
-        Ok(())
-    }
-
-    fn read_size(&mut self, line: &str) -> Result<(), Fault> {
-        self.ground = ground_of(line).ok_or(Fault::NoGround)?;
-        self.stage = Stage::Pairs;
-        Ok(())
     }
 
     // A look-up, or a link.
@@ -124,8 +97,28 @@ impl Request {
             return Ok(());
         }
         let (first, second) = two_numbers(line).ok_or(Fault::NoPair)?;
-        self.ends.push(first)?;
-        self.ends.push(second)?;
+        self.ends.extend_from_slice(&[first, second])?;
         Ok(())
+    }
+}
+
+impl Stage {
+    // Reads the next line of the text.
+    pub(crate) fn read(self, heap: Global, line: &str) -> Result<Stage, Fault> {
+        match self {
+            Stage::Start => {
+                let depth = line.parse::<u16>().map_err(|_| Fault::NoDepth)?;
+                Ok(Stage::Depth(depth))
+            }
+            Stage::Depth(depth) => {
+                let ground = ground_of(line).ok_or(Fault::NoGround)?;
+                Ok(Stage::Pairs(Request::new(heap, depth, ground)))
+            }
+            Stage::Pairs(mut request) => {
+                request.read_pair(line)?;
+                Ok(Stage::Pairs(request))
+            }
+            Stage::Faulty => Ok(Stage::Faulty),
+        }
     }
 }

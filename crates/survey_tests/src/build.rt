@@ -2,22 +2,14 @@ use std::alloc::{AllocError, Global};
 
 // Each space linked to the next.
 pub(crate) fn path(heap: Global, spaces: u16) -> Result<Vec<u16>, AllocError> {
-    let mut ends = Vec::new(heap);
-    for v in 1..spaces {
-        ends.push(v - 1)?;
-        ends.push(v)?;
-    }
-    Ok(ends)
+    (1..spaces).flat_map(|v| [v - 1, v]).collect(heap)
 }
 
 // Each space linked to the ones before it, at most `back` of them.
 pub(crate) fn steps(heap: Global, spaces: u16, back: u16) -> Result<Vec<u16>, AllocError> {
     let mut ends = Vec::new(heap);
     for v in 1..spaces {
-        for d in 1..back.min(v).saturating_add(1) {
-            ends.push(v)?;
-            ends.push(v.saturating_sub(d))?;
-        }
+        ends.extend((1..=back.min(v)).flat_map(|d| [v, v - d]))?;
     }
     Ok(ends)
 }
@@ -26,10 +18,7 @@ pub(crate) fn steps(heap: Global, spaces: u16, back: u16) -> Result<Vec<u16>, Al
 pub(crate) fn circle(heap: Global) -> Result<Vec<u16>, AllocError> {
     let mut ends = Vec::new(heap);
     for v in 0..4096u16 {
-        for d in 1..9u16 {
-            ends.push(v)?;
-            ends.push((v + d) % 4096)?;
-        }
+        ends.extend((1..9).flat_map(|d| [v, (v + d) % 4096]))?;
     }
     Ok(ends)
 }
@@ -38,10 +27,7 @@ pub(crate) fn circle(heap: Global) -> Result<Vec<u16>, AllocError> {
 pub(crate) fn hubs(heap: Global) -> Result<Vec<u16>, AllocError> {
     let mut ends = Vec::new(heap);
     for v in 8..4096u16 {
-        for hub in 0..8u16 {
-            ends.push(hub)?;
-            ends.push(v)?;
-        }
+        ends.extend((0..8).flat_map(|hub| [hub, v]))?;
     }
     Ok(ends)
 }

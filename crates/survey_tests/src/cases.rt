@@ -1,10 +1,9 @@
 use crate::build::{circle, hubs, path, steps};
-use crate::judge::{Lack, Memory, is_right};
+use crate::judge::{Memory, Part, is_right, used};
 use maps::drawn::DrawnMap;
 use maps::hex::HexSheet;
 use maps::source::Map;
 use survey::refusals::SurveyRefusal;
-use survey::survey::survey;
 
 // A small map and a depth.
 #[derive(Clone, Copy)]
@@ -108,54 +107,33 @@ fn try_map<M: Map>(
     name: &str,
     map: &M,
     depth: u16,
-    lack: Lack,
+    lack: Option<Part>,
 ) -> anyhow::Result<()> {
     let heap = rt.alloc();
-    let n = map.spaces().min(5000) as usize;
-    let cells = n * depth.min(9) as usize;
-    let mut memory = Memory::new(heap, n, cells, lack)?;
-    let reply = survey(
-        map,
-        depth,
-        memory.order.as_mut_slice(),
-        memory.table.as_mut_slice(),
-        memory.set.as_mut_slice(),
-        memory.marks.as_mut_slice(),
-    );
+    let (spaces, cells) = used(map, depth);
+    let mut memory = Memory::new(heap, spaces, cells, lack)?;
+    let reply = memory.survey(map, depth);
     print!(rt; "{name}: ")?;
     match reply {
         Ok(()) => print!(rt; "accepted")?,
-        Err(refusal) => print_refusal(rt, refusal, memory.set.as_slice())?,
+        Err(refusal) => print_refusal(rt, refusal, &memory.set)?,
     }
     let right = is_right(heap, map, depth, &memory, reply)?;
-    println!(rt;
-        "{}",
-        if right {
-            ", memory right"
-        } else {
-            ", memory WRONG"
-        }
-    )?;
+    let word = if right { "right" } else { "WRONG" };
+    println!(rt; ", memory {word}")?;
     Ok(())
 }
 
+// Prints the refusal, and of a dense map the first ten spaces of its set, and how many it has.
 fn print_refusal(rt: &HostRuntime, refusal: SurveyRefusal, set: &[u8]) -> anyhow::Result<()> {
-    let number = refusal.number();
-    print!(rt; "refused {number}")?;
-    if let Some(place) = refusal.place() {
-        print!(rt; " at link {place}")?;
-    }
-    if number == 22 {
-        let mut members = 0u32;
-        for (space, member) in set.iter().enumerate() {
-            if *member == 1 {
-                members = members.saturating_add(1);
-                if members <= 10 {
-                    print!(rt; " {space}")?;
-                }
-            }
+    print!(rt; "refused {refusal}")?;
+    if refusal == SurveyRefusal::Dense {
+        let members = set.iter().enumerate().filter(|(_, member)| **member == 1);
+        for (space, _) in members.take(10) {
+            print!(rt; " {space}")?;
         }
-        print!(rt; " ({members} spaces)")?;
+        let count = set.iter().filter(|member| **member == 1).count();
+        print!(rt; " ({count} spaces)")?;
     }
     Ok(())
 }
@@ -168,31 +146,28 @@ fn try_drawn(
     ends: &[u16],
     depth: u16,
 ) -> anyhow::Result<()> {
-    try_map(rt, name, &DrawnMap::new(spaces, ends), depth, Lack::Nothing)
+    try_map(rt, name, &DrawnMap::new(spaces, ends), depth, None)
 }
 
 // The maps of the table.
 pub(crate) fn run_cases(rt: &HostRuntime) -> anyhow::Result<()> {
-    for case in CASES.iter() {
+    for case in &CASES {
         try_drawn(rt, case.name, case.spaces, case.ends, case.depth)?;
     }
     Ok(())
 }
 
 fn try_hex(rt: &HostRuntime) -> anyhow::Result<()> {
-    if let Ok(sheet) = HexSheet::new(3, 3) {
-        try_map(rt, "3 by 3 hexes at 2", &sheet, 2, Lack::Nothing)?;
-        try_map(rt, "3 by 3 hexes at 3", &sheet, 3, Lack::Nothing)?;
-        try_map(rt, "in a short order", &sheet, 3, Lack::Order)?;
-        try_map(rt, "in a short table", &sheet, 3, Lack::Table)?;
-        try_map(rt, "in a short set", &sheet, 3, Lack::Set)?;
-        try_map(rt, "with short marks", &sheet, 3, Lack::Marks)?;
-    }
-    if let Ok(sheet) = HexSheet::new(64, 64) {
-        try_map(rt, "64 by 64 hexes at 2", &sheet, 2, Lack::Nothing)?;
-        try_map(rt, "64 by 64 hexes at 3", &sheet, 3, Lack::Nothing)?;
-    }
-    Ok(())
+    let sheet = HexSheet::new(3, 3).unwrap();
+    try_map(rt, "3 by 3 hexes at 2", &sheet, 2, None)?;
+    try_map(rt, "3 by 3 hexes at 3", &sheet, 3, None)?;
+    try_map(rt, "in a short order", &sheet, 3, Some(Part::Order))?;
+    try_map(rt, "in a short table", &sheet, 3, Some(Part::Table))?;
+    try_map(rt, "in a short set", &sheet, 3, Some(Part::Set))?;
+    try_map(rt, "with short marks", &sheet, 3, Some(Part::Marks))?;
+    let sheet = HexSheet::new(64, 64).unwrap();
+    try_map(rt, "64 by 64 hexes at 2", &sheet, 2, None)?;
+    try_map(rt, "64 by 64 hexes at 3", &sheet, 3, None)
 }
 
 // Maps that are built: hex sheets, and the largest that are allowed.
@@ -200,16 +175,15 @@ pub(crate) fn run_built(rt: &HostRuntime) -> anyhow::Result<()> {
     try_hex(rt)?;
     let heap = rt.alloc();
     let ends = path(heap, 4096)?;
-    try_drawn(rt, "path at 1", 4096, ends.as_slice(), 1)?;
-    try_drawn(rt, "4,097 spaces", 4097, ends.as_slice(), 1)?;
+    try_drawn(rt, "path at 1", 4096, &ends, 1)?;
+    try_drawn(rt, "4,097 spaces", 4097, &ends, 1)?;
     let ends = steps(heap, 4096, 8)?;
-    try_drawn(rt, "eight steps back at 8", 4096, ends.as_slice(), 8)?;
-    try_drawn(rt, "eight steps back at 7", 4096, ends.as_slice(), 7)?;
+    try_drawn(rt, "eight steps back at 8", 4096, &ends, 8)?;
+    try_drawn(rt, "eight steps back at 7", 4096, &ends, 7)?;
     let ends = hubs(heap)?;
-    try_drawn(rt, "eight hubs at 8", 4096, ends.as_slice(), 8)?;
+    try_drawn(rt, "eight hubs at 8", 4096, &ends, 8)?;
     let mut ends = circle(heap)?;
-    try_drawn(rt, "32,768 links at 8", 4096, ends.as_slice(), 8)?;
-    ends.push(0)?;
-    ends.push(2048)?;
-    try_drawn(rt, "32,769 links", 4096, ends.as_slice(), 8)
+    try_drawn(rt, "32,768 links at 8", 4096, &ends, 8)?;
+    ends.extend_from_slice(&[0, 2048])?;
+    try_drawn(rt, "32,769 links", 4096, &ends, 8)
 }

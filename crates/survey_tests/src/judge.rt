@@ -3,6 +3,7 @@ use maps::source::Map;
 use std::alloc::{AllocError, Global};
 use survey::look_up::look_up;
 use survey::refusals::SurveyRefusal;
+use survey::survey::survey;
 
 // What the memory holds before a survey.
 pub const WORD: u16 = 43_690;
@@ -12,10 +13,9 @@ pub const BYTE: u8 = 170;
 // More than the survey needs, by this much.
 pub const SPARE: usize = 3;
 
-// Which part of the memory is one shorter than the survey needs.
-#[derive(Clone, Copy)]
-pub(crate) enum Lack {
-    Nothing,
+// A part of the memory.
+#[derive(Clone, Copy, PartialEq, Eq)]
+pub(crate) enum Part {
     Order,
     Table,
     Set,
@@ -31,67 +31,50 @@ pub(crate) struct Memory {
     pub marks: Vec<u8>,
 }
 
+// How long a part is that the survey needs so long: some to spare, unless a part lacks one.
+fn length(part: Part, needed: usize, lack: Option<Part>) -> usize {
+    match lack {
+        None => needed.saturating_add(SPARE),
+        Some(short) if short == part => needed.saturating_sub(1),
+        Some(_) => needed,
+    }
+}
+
 impl Memory {
-    // Memory for so many spaces and cells, with some to spare, but for the part that lacks one.
+    // Memory for so many spaces and cells, of which one part may lack one.
     pub(crate) fn new(
         heap: Global,
         spaces: usize,
         cells: usize,
-        lack: Lack,
+        lack: Option<Part>,
     ) -> Result<Memory, AllocError> {
-        let mut order = vec![in heap; WORD; spaces]?;
-        let mut table = vec![in heap; WORD; cells]?;
-        let mut set = vec![in heap; BYTE; spaces]?;
-        let mut marks = vec![in heap; BYTE; spaces]?;
-        match lack {
-            Lack::Nothing => {
-                order.extend_from_slice(&[WORD; SPARE])?;
-                table.extend_from_slice(&[WORD; SPARE])?;
-                set.extend_from_slice(&[BYTE; SPARE])?;
-                marks.extend_from_slice(&[BYTE; SPARE])?;
-            }
-            Lack::Order => order.truncate(spaces.saturating_sub(1)),
-            Lack::Table => table.truncate(cells.saturating_sub(1)),
-            Lack::Set => set.truncate(spaces.saturating_sub(1)),
-            Lack::Marks => marks.truncate(spaces.saturating_sub(1)),
-        }
         Ok(Memory {
-            order,
-            table,
-            set,
-            marks,
+            order: vec![in heap; WORD; length(Part::Order, spaces, lack)]?,
+            table: vec![in heap; WORD; length(Part::Table, cells, lack)]?,
+            set: vec![in heap; BYTE; length(Part::Set, spaces, lack)]?,
+            marks: vec![in heap; BYTE; length(Part::Marks, spaces, lack)]?,
         })
     }
-}
 
-// From `start` on, and before `end`, each word is `x`.
-fn words_are(words: &[u16], start: usize, end: usize, x: u16) -> bool {
-    for (i, word) in words.iter().enumerate() {
-        if i >= start && i < end && *word != x {
-            return false;
-        }
+    // Surveys a map in this memory.
+    pub(crate) fn survey<M: Map>(&mut self, map: &M, depth: u16) -> Result<(), SurveyRefusal> {
+        survey(
+            map,
+            depth,
+            &mut self.order,
+            &mut self.table,
+            &mut self.set,
+            &mut self.marks,
+        )
     }
-    true
 }
 
-// From `start` on, and before `end`, each byte is `x`.
-fn bytes_are(bytes: &[u8], start: usize, end: usize, x: u8) -> bool {
-    for (i, byte) in bytes.iter().enumerate() {
-        if i >= start && i < end && *byte != x {
-            return false;
-        }
-    }
-    true
-}
-
-// The place of each space in the order; the number of spaces where it has none.
-fn places(heap: Global, order: &[u16], n: usize) -> Result<Vec<usize>, AllocError> {
-    let mut places = vec![in heap; n; n]?;
+// The place of each space in the order, where it has one.
+fn places(heap: Global, order: &[u16], n: usize) -> Result<Vec<Option<usize>>, AllocError> {
+    let mut places = vec![in heap; None; n]?;
     for (i, space) in order.iter().enumerate() {
-        if i < n {
-            if let Some(place) = places.get_mut(*space as usize) {
-                *place = i;
-            }
+        if let Some(place) = places.get_mut(*space as usize) {
+            *place = Some(i);
         }
     }
     Ok(places)
@@ -107,58 +90,40 @@ fn is_ordered<M: Map>(
 ) -> Result<bool, AllocError> {
     let places = places(heap, order, n)?;
     let mut before = vec![in heap; 0u32; n]?;
-    for i in 0..map.links() {
-        let Some((a, b)) = map.pair(i) else {
-            return Ok(false);
-        };
-        let first = places.get(a as usize).copied().unwrap_or(n);
-        let second = places.get(b as usize).copied().unwrap_or(n);
-        let later = if first < second { b } else { a };
+    for (a, b) in (0..map.links()).filter_map(|i| map.pair(i)) {
+        let in_order = places.get(a as usize) < places.get(b as usize);
+        let later = if in_order { b } else { a };
         if let Some(count) = before.get_mut(later as usize) {
             *count = count.saturating_add(1);
         }
     }
-    for place in places.as_slice() {
-        if *place >= n {
-            return Ok(false);
-        }
-    }
-    for count in before.as_slice() {
-        if *count > k as u32 {
-            return Ok(false);
-        }
-    }
-    Ok(true)
+    Ok(places.iter().all(|place| place.is_some()) && before.iter().all(|count| *count <= k as u32))
 }
 
 // The table says yes for each link, and has one filled cell for each.
-fn is_tabled<M: Map>(map: &M, table: &[u16], cells: usize, k: u16) -> bool {
-    let mut filled = 0u32;
-    for (i, cell) in table.iter().enumerate() {
-        if i < cells && *cell != EMPTY {
-            filled = filled.saturating_add(1);
-        }
-    }
-    for i in 0..map.links() {
-        let Some((a, b)) = map.pair(i) else {
-            return false;
-        };
-        match look_up(map.spaces(), k, table, a, b) {
-            Ok(reading) if reading.linked => {}
-            _ => return false,
-        }
-    }
-    filled == map.links()
+fn is_tabled<M: Map>(map: &M, table: &[u16], k: u16) -> bool {
+    let filled = table.iter().filter(|cell| **cell != EMPTY).count();
+    let mut links = (0..map.links()).filter_map(|i| map.pair(i));
+    filled == map.links() as usize
+        && links.all(|(a, b)| {
+            look_up(map.spaces(), k, table, a, b).is_ok_and(|reading| reading.linked)
+        })
 }
 
-// Each byte of the set is 0 or 1.
-fn is_set(set: &[u8], n: usize) -> bool {
-    for (i, byte) in set.iter().enumerate() {
-        if i < n && *byte > 1 {
-            return false;
-        }
-    }
-    true
+// How many spaces and cells of its memory a survey uses.
+pub(crate) fn used<M: Map>(map: &M, depth: u16) -> (usize, usize) {
+    let n = map.spaces().min(5000) as usize;
+    (n, n * depth.min(9) as usize)
+}
+
+// Each of these is `x`.
+fn all_are<T: Copy + PartialEq>(cells: &[T], x: T) -> bool {
+    cells.iter().all(|cell| *cell == x)
+}
+
+// What a survey uses of a part of the memory, and what is past it.
+fn parted<T>(part: &[T], used: usize) -> (&[T], &[T]) {
+    part.split_at(used.min(part.len()))
 }
 
 // The memory holds what it should after this reply.
@@ -169,39 +134,34 @@ pub(crate) fn is_right<M: Map>(
     memory: &Memory,
     reply: Result<(), SurveyRefusal>,
 ) -> Result<bool, AllocError> {
-    let n = map.spaces().min(5000) as usize;
-    let cells = n * k.min(9) as usize;
-    let order = memory.order.as_slice();
-    let table = memory.table.as_slice();
-    let set = memory.set.as_slice();
-    let marks = memory.marks.as_slice();
-    let end = usize::MAX;
-    let past = words_are(order, n, end, WORD)
-        && words_are(table, cells, end, WORD)
-        && bytes_are(set, n, end, BYTE)
-        && bytes_are(marks, n, end, BYTE);
-    let cleared = bytes_are(marks, 0, n, 0);
-    let unwritten = words_are(order, 0, end, WORD) && words_are(table, 0, end, WORD);
-    let unset = bytes_are(set, 0, end, BYTE);
+    let (n, cells) = used(map, k);
+    let (order, past_order) = parted(&memory.order, n);
+    let (table, past_table) = parted(&memory.table, cells);
+    let (set, past_set) = parted(&memory.set, n);
+    let (marks, past_marks) = parted(&memory.marks, n);
+    let past = all_are(past_order, WORD)
+        && all_are(past_table, WORD)
+        && all_are(past_set, BYTE)
+        && all_are(past_marks, BYTE);
+    let cleared = all_are(marks, 0);
+    let unwritten = all_are(order, WORD) && all_are(table, WORD);
+    let unset = all_are(set, BYTE);
     Ok(
         past && match reply {
             Ok(()) => {
-                cleared
-                    && unset
-                    && is_ordered(heap, map, order, n, k)?
-                    && is_tabled(map, table, cells, k)
+                cleared && unset && is_ordered(heap, map, order, n, k)? && is_tabled(map, table, k)
             }
             Err(SurveyRefusal::Dense) => {
                 cleared
-                    && is_set(set, n)
-                    && words_are(order, 0, n, EMPTY)
-                    && words_are(table, 0, cells, EMPTY)
+                    && set.iter().all(|member| *member <= 1)
+                    && all_are(order, EMPTY)
+                    && all_are(table, EMPTY)
             }
-            Err(SurveyRefusal::DepthOutOfRange)
-            | Err(SurveyRefusal::SizeOutOfRange)
-            | Err(SurveyRefusal::ShortMemory) => {
-                unwritten && unset && bytes_are(marks, 0, end, BYTE)
-            }
+            Err(
+                SurveyRefusal::DepthOutOfRange
+                | SurveyRefusal::SizeOutOfRange
+                | SurveyRefusal::ShortMemory,
+            ) => unwritten && unset && all_are(marks, BYTE),
             Err(_) => cleared && unwritten && unset,
         },
     )
