@@ -4,13 +4,13 @@
 use anyhow::{Context, bail};
 use maps::centre::Centre;
 use maps::hex::HexSheet;
+use maps::pairs::Pairs;
 use maps::source::Map;
 use std::{env, io};
 
 // One line for each link, in the sheet's order.
 fn print_links(rt: &impl Print, sheet: &HexSheet) -> io::Result<()> {
-    let links = (0..sheet.links()).filter_map(|place| sheet.pair(place));
-    for (place, (a, b)) in links.enumerate() {
+    for (place, (a, b)) in Pairs::of(sheet).enumerate() {
         println!(rt; "link {place}: {a} - {b}")?;
     }
     Ok(())

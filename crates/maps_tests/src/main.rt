@@ -7,6 +7,7 @@ use maps::centre::Centre;
 use maps::checks::check_links;
 use maps::drawn::DrawnMap;
 use maps::hex::HexSheet;
+use maps::memory::ListMemory;
 use maps::reading::read_link;
 use maps::refusals::ListRefusal;
 use maps::source::Map;
@@ -103,7 +104,15 @@ fn reply_to<const LINKS: usize, const SPACES: usize>(
     let mut head = [0u16; SPACES];
     let mut next = [(0u16, 0u16); LINKS];
     let map = DrawnMap::new(spaces, ends);
-    check_links(&map, &mut links, &mut head, &mut next, marks)
+    check_links(
+        &map,
+        &mut ListMemory {
+            links: &mut links,
+            head: &mut head,
+            next: &mut next,
+            marks,
+        },
+    )
 }
 
 // The reply with room for eight, and the marks, of which the last two are past the spaces.

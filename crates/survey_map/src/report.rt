@@ -4,10 +4,12 @@ ghost use Rattle.std.specs.Iterator.{IsFinite};
 use crate::request::{Ground, Request};
 use maps::drawn::DrawnMap;
 use maps::hex::HexSheet;
+use maps::pairs::Pairs;
 use maps::reading::EMPTY;
 use maps::source::Map;
 use std::fmt::Display;
 use survey::look_up::look_up;
+use survey::memory::SurveyMemory;
 use survey::refusals::SurveyRefusal;
 use survey::survey::survey;
 
@@ -62,7 +64,17 @@ fn report_map<M: Map>(rt: &HostRuntime, map: &M, request: &Request) -> anyhow::R
     let mut cells = vec![in heap; 0u16; n * depth.min(8) as usize]?;
     let mut set = vec![in heap; 0u8; n]?;
     let mut marks = vec![in heap; 0u8; n]?;
-    match survey(map, depth, &mut order, &mut cells, &mut set, &mut marks) {
+    let reply = survey(
+        map,
+        depth,
+        &mut SurveyMemory {
+            order: &mut order,
+            table: &mut cells,
+            set: &mut set,
+            marks: &mut marks,
+        },
+    );
+    match reply {
         Ok(()) => {
             let table = Table {
                 spaces,
@@ -106,8 +118,7 @@ fn print_rows(rt: &HostRuntime, table: &Table<'_>) -> anyhow::Result<()> {
 
 // Prints each link with its colour.
 fn print_colours<M: Map>(rt: &HostRuntime, map: &M, table: &Table<'_>) -> anyhow::Result<()> {
-    let links = (0..map.links()).filter_map(|place| map.pair(place));
-    for (a, b) in links {
+    for (a, b) in Pairs::of(map) {
         let colour = table
             .place_in_row(a, b)
             .or_else(|| table.place_in_row(b, a));

@@ -1,7 +1,9 @@
+use maps::pairs::Pairs;
 use maps::reading::EMPTY;
 use maps::source::Map;
 use std::alloc::{AllocError, Global};
 use survey::look_up::look_up;
+use survey::memory::SurveyMemory;
 use survey::refusals::SurveyRefusal;
 use survey::survey::survey;
 
@@ -61,10 +63,12 @@ impl Memory {
         survey(
             map,
             depth,
-            &mut self.order,
-            &mut self.table,
-            &mut self.set,
-            &mut self.marks,
+            &mut SurveyMemory {
+                order: &mut self.order,
+                table: &mut self.table,
+                set: &mut self.set,
+                marks: &mut self.marks,
+            },
         )
     }
 }
@@ -90,7 +94,7 @@ fn is_ordered<M: Map>(
 ) -> Result<bool, AllocError> {
     let places = places(heap, order, n)?;
     let mut before = vec![in heap; 0u32; n]?;
-    for (a, b) in (0..map.links()).filter_map(|i| map.pair(i)) {
+    for (a, b) in Pairs::of(map) {
         let in_order = places.get(a as usize) < places.get(b as usize);
         let later = if in_order { b } else { a };
         if let Some(count) = before.get_mut(later as usize) {
@@ -103,9 +107,8 @@ fn is_ordered<M: Map>(
 // The table says yes for each link, and has one filled cell for each.
 fn is_tabled<M: Map>(map: &M, table: &[u16], k: u16) -> bool {
     let filled = table.iter().filter(|cell| **cell != EMPTY).count();
-    let mut links = (0..map.links()).filter_map(|i| map.pair(i));
     filled == map.links() as usize
-        && links.all(|(a, b)| {
+        && Pairs::of(map).all(|(a, b)| {
             look_up(map.spaces(), k, table, a, b).is_ok_and(|reading| reading.linked)
         })
 }
