@@ -1,7 +1,7 @@
 // Prints a hex sheet as an artist checks it against the drawing: its size, each link and each centre.
 #![tactic(auto)]
 
-use anyhow::{Context, bail};
+use anyhow::Context;
 use maps::centre::Centre;
 use maps::hex::HexSheet;
 use maps::pairs::Pairs;
@@ -40,9 +40,8 @@ fn print_sheet(rt: &impl Print, width: u16, height: u16) -> anyhow::Result<()> {
 fn run(rt: &HostRuntime) -> anyhow::Result<()> {
     let mut args = env::args(rt)?;
     let _program = args.next();
-    let (Some(width), Some(height)) = (args.next(), args.next()) else {
-        bail!("usage: hex_sheet WIDTH HEIGHT");
-    };
+    let size = args.next().zip(args.next());
+    let (width, height) = size.context("usage: hex_sheet WIDTH HEIGHT")?;
     print_sheet(rt, width.parse::<u16>()?, height.parse::<u16>()?)
 }
 
