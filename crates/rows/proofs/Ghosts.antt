@@ -1,8 +1,10 @@
 -- Memory that is in order, by the parts that a ghost field states.
-use Rattle.std.proofs.Common.{◌*◌, refl, arith}
+use Rattle.std.proofs.Common.{◌≡◌, ◌≢◌, ℕ, ◌*◌, ◌<◌, ◌≤◌, List, length, sym, refl, subst, arith}
 use Rattle.rows.specs.Keeping.{SameShape}
+use Rattle.rows.specs.Sound.{cell, Sound}
 use Rattle.rows.specs.View.{Ready, InSize, InNames, InFront}
 use Rattle.rows.proofs.Changes.{past_same}
+use Rattle.rows.specs.declared.link_rows.LinkRows.{LinkRows}
 use Rattle.rows.specs.declared.memory.Memory.{Memory}
 
 pub ready_by : (m : Memory) → InSize m → InNames m → InFront m → Ready m
@@ -26,6 +28,28 @@ module _ (m : Memory) (r : Ready m) where
 
   pub front_of : InFront m
   front_of p h = r.sound.first p.0 h.0 p.1 p.2 h.1 h.2 h.3
+
+pub ready_of : (r : LinkRows) → Ready r.memory
+ready_of r = ready_by r.memory r.sizes r.names r.front
+
+-- the parts, of a table that is in order
+module _ (n k : ℕ) (t : List ℕ) (s : Sound n k t) where
+  pub names_in : (p : ℕ × ℕ) → ((p.0 < n) × (p.1 < k) × (cell k t p.0 p.1 ≢ 65535)) → cell k t p.0 p.1 < n
+  names_in p h = s.named p.0 p.1 h.0 h.1 h.2
+
+  pub front_in : (p : ℕ × ℕ × ℕ) → ((p.0 < n) × (p.1 ≤ p.2) × (p.2 < k) × (cell k t p.0 p.1 ≡ 65535)) → cell k t p.0 p.2 ≡ 65535
+  front_in p h = s.first p.0 h.0 p.1 p.2 h.1 h.2 h.3
+
+-- another table of the same rows
+pub ready_written
+    : (m m' : Memory) (t : List ℕ) → m'.n ≡ m.n → m'.k ≡ m.k → length m'.records.now ≡ length m.records.now → m'.table.now ≡ t
+    → Ready m → Sound m.n m.k t → Ready m'
+ready_written m m' t en ek el et r s =
+    let P : ℕ → ℕ → List ℕ → Type 0 = Sound in
+    record {
+      sound = subst (λ (x : ℕ). P x m'.k m'.table.now) (sym en) (subst (λ (x : ℕ). P m.n x m'.table.now) (sym ek) (subst (P m.n m.k) (sym et) s));
+      room = omega (arith, r.room);
+    }
 
 pub ready_after : (m m' : Memory) → Ready m → SameShape m m' → Ready m'
 ready_after m m' r s = record { sound = s.sound; room = omega (arith, s.records.len, s.n, r.room) }

@@ -11,4 +11,5 @@ pub mod Noting
 pub mod Readings
 pub mod Records
 pub mod Table
+pub mod Taking
 pub mod Visiting

@@ -12,6 +12,13 @@ use Rattle.rows.specs.Sound.{cell, Sound}
 use Rattle.rows.specs.View.{rows_of, queue_of, parent_of, turn_of}
 use Rattle.rows.specs.declared.memory.Memory.{Memory}
 
+-- only cells of the n rows may have changed
+pub record SameBesideCells (m m' : Memory) : Type 0 where
+  pub n : m'.n ≡ m.n
+  pub k : m'.k ≡ m.k
+  pub records : m'.records.now ≡ m.records.now
+  pub past : SameFrom (m.n * m.k) m.table.now m'.table.now
+
 -- a search has found `tail` spaces, which the marks have
 abbrev pub Searching : Memory → List ℕ → ℕ → Type 0
 Searching m marks tail = Search m.n (rows_of m) (among m.n marks) (queue_of m) (parent_of m) (turn_of m) tail

@@ -1,11 +1,15 @@
 // The cells of one row of a flat table.
-ghost use Rattle.std.specs.Prelude.{◌≡◌, ℕ, ◌+◌, ◌*◌, ◌<◌, ◌≤◌, true, false, length, ◌≢◌, slice_index, slice_set};
+ghost use Rattle.std.specs.Prelude.{◌≡◌, ℕ, ◌+◌, ◌*◌, ◌<◌, ◌≤◌, true, false, length, ◌≢◌, slice_index, slice_set, ◌==◌, position, MatchBool};
+ghost use Rattle.maps.specs.Reading.{row};
+ghost use Rattle.rows.specs.Steps.{SameBesideCells};
+ghost use Rattle.rows.specs.View.{rows_of};
 ghost use Rattle.crowding.specs.Putting.{Put};
 ghost use Rattle.crowding.specs.Table.{table_rows};
 ghost use Rattle.rows.specs.Past.{SameFrom};
 ghost use Rattle.rows.specs.Sound.{FilledFirst, Sound, cell};
 ghost use Rattle.std.specs.List.{ContainsAt};
 
+use crate::link_rows::LinkRows;
 use maps::reading::EMPTY;
 
 // The first cell of row `v` that holds `c`, or `k` where none does.
@@ -78,13 +82,68 @@ pub(crate) fn take_out(table: &mut [u16], k: usize, v: usize, c: u16) -> bool
     true
 }
 
+impl LinkRows<'_> {
+    // The cells of row `v`.
+    fn row(&self, v: u16) -> &[u16]
+        requires { v < self.now.memory.n }
+        ensures { result.now ≡ row self.now.memory.k self.now.memory.table.now v }
+    {
+        let from = v as usize * self.memory.k;
+        &self.memory.table[from..from + self.memory.k]
+    }
+
+    // The place in row `v` of the first cell that holds `c`.
+    fn find(&self, v: u16, c: u16) -> Option<usize>
+        requires { v < self.now.memory.n }
+        ensures { result ≡ position (λ x. x == c) (row self.now.memory.k self.now.memory.table.now v) }
+    {
+        self.row(v).iter().position(|x| *x == c)
+    }
+
+    // Whether row `v` has a free cell.
+    pub(crate) fn has_room(&self, v: u16) -> bool
+        requires { v < self.now.memory.n }
+        ensures { MatchBool result (length (rows_of self.now.memory v) < self.now.memory.k) (length (rows_of self.now.memory v) ≡ self.now.memory.k) }
+    {
+        self.find(v, EMPTY).is_some()
+    }
+
+    // Puts `c` into the first free cell of row `v`.
+    pub(crate) fn put_in(&mut self, v: u16, c: u16)
+        requires inside { (v < self.old.memory.n) × (c < self.old.memory.n) }
+        requires free { length (rows_of self.old.memory v) < self.old.memory.k }
+        ensures put { Put self.old.memory.n v c (rows_of self.old.memory) (rows_of self.new.memory) }
+        ensures rest { SameBesideCells self.old.memory self.new.memory }
+    {
+        let from = v as usize * self.memory.k;
+        if let Some(j) = self.find(v, EMPTY) {
+            self.memory.table[from + j] = c;
+        }
+    }
+
+    // Takes `c` out of row `v` and closes the gap with the row's last filled cell. False, and nothing changed, if the row does not hold it.
+    pub(crate) fn take_out(&mut self, v: u16, c: u16) -> bool
+        requires inside { (v < self.old.memory.n) × (c < self.old.memory.n) }
+        ensures answer { MatchBool result
+            (Put self.old.memory.n v c (rows_of self.new.memory) (rows_of self.old.memory))
+            ((self.new.memory.table.now ≡ self.old.memory.table.now) × ¬ ContainsAt (rows_of self.old.memory v) c) }
+        ensures rest { SameBesideCells self.old.memory self.new.memory }
+    {
+        let from = v as usize * self.memory.k;
+        let Some(gap) = self.find(v, c) else {
+            return false;
+        };
+        let last = self.find(v, EMPTY).unwrap_or(self.memory.k) - 1;
+        self.memory.close_gap(from + gap, from + last);
+        true
+    }
+}
+
 // Empties the first `count` cells.
 pub(crate) fn empty_cells(table: &mut [u16], count: usize)
     requires { count ≤ length table.old }
     ensures empty { (i : ℕ) → i < count → slice_index table.new i ≡ 65535 }
     ensures past { SameFrom count table.old table.new }
 {
-    for i in 0..count {
-        table[i] = EMPTY;
-    }
+    table[..count].fill(EMPTY);
 }

@@ -1,7 +1,9 @@
 // The lent memory.
-ghost use Rattle.std.specs.Prelude.{◌≡◌, ℕ, ◌<◌, length, slice_set};
+ghost use Rattle.std.specs.Prelude.{◌≡◌, ℕ, ◌<◌, length, slice_index, slice_set};
 ghost use Rattle.rows.specs.Past.{SameFrom};
 ghost use Rattle.rows.specs.View.{parents, queues, turns};
+
+use maps::reading::EMPTY;
 
 // What a search notes: at place `i`, the space that it found i-th; at a space, from where and as which it was found.
 #[derive(Clone, Copy, Default)]
@@ -33,6 +35,20 @@ pub struct Memory<'a> {
     pub(crate) table: &'a mut [u16],
     pub(crate) n: usize,
     pub(crate) k: usize,
+}
+
+impl Memory<'_> {
+    // Moves what the cell at `last` holds to `gap`, and empties that cell.
+    pub(crate) fn close_gap(&mut self, gap: usize, last: usize)
+        requires { (gap < length self.old.table.now) × (last < length self.old.table.now) }
+        ensures table { self.new.table.now ≡ slice_set (slice_set self.old.table.now gap (slice_index self.old.table.now last)) last 65535 }
+        ensures n { self.new.n ≡ self.old.n }
+        ensures k { self.new.k ≡ self.old.k }
+        ensures records { self.new.records.now ≡ self.old.records.now }
+    {
+        self.table[gap] = self.table[last];
+        self.table[last] = EMPTY;
+    }
 }
 
 // Notes `x` as the i-th space found.
