@@ -4,6 +4,7 @@ use Rattle.std.proofs.lemmas.List.FromFn.{fill_by_all}
 use Rattle.std.proofs.lemmas.List.{take-append-drop, length-take, get_or-take}
 use Rattle.maps.specs.Marks.{Cleared}
 use Rattle.maps.specs.Sets.{Spaces, bytes}
+use Rattle.maps.specs.declared.marks.Marks.{Marks}
 use Rattle.crowding.proofs.Uniform.{crowding_at}
 use Rattle.rows.specs.Keeping.{Reported}
 use Rattle.rows.specs.Past.{SameFrom}
@@ -34,11 +35,11 @@ bytes_written n s before after l e low high =
     sym (take-append-drop n after) ∙ (ap (λ (x : List ℕ). x ++ drop n after) front ∙ ap (λ (x : List ℕ). bytes n s ++ x) back)
 
 pub reported
-    : (m : Memory) (n : ℕ) (marks : List ℕ) (a b : ℕ) (before after : List ℕ) → n ≡ m.n → a < m.n → b < m.n → Stuck m marks a b → n ≤ length before → length after ≡ length before
-    → ((x : ℕ) → x < n → get_or after x 0 ≡ cond (among n marks x) 1 0) → ((x : ℕ) → n ≤ x → get_or after x 0 ≡ get_or before x 0) → Reported m a b before after
+    : (m : Memory) (n : ℕ) (marks : Marks) (a b : ℕ) (before after : List ℕ) → n ≡ m.n → a < m.n → b < m.n → Stuck m marks a b → n ≤ length before → length after ≡ length before
+    → ((x : ℕ) → x < n → get_or after x 0 ≡ cond (among n marks.bytes.now x) 1 0) → ((x : ℕ) → n ≤ x → get_or after x 0 ≡ get_or before x 0) → Reported m a b before after
 reported m n marks a b before after en la lb s l e low high =
     record {
-      members = among m.n marks;
-      written = subst (λ (x : ℕ). after ≡ bytes x (among x marks) ++ drop x before) en (bytes_written n (among n marks) before after l e low high);
-      smallest = λ links o. crowding_at m.k m.n (rows_of m) links o a b la lb (among m.n marks) s.reached s.full;
+      members = among m.n marks.bytes.now;
+      written = subst (λ (x : ℕ). after ≡ bytes x (among x marks.bytes.now) ++ drop x before) en (bytes_written n (among n marks.bytes.now) before after l e low high);
+      smallest = λ links o. crowding_at m.k m.n (rows_of m) links o a b la lb (among m.n marks.bytes.now) s.reached s.full;
     }

@@ -2,6 +2,7 @@
 use Rattle.std.proofs.Common.{◌≡◌, ℕ, ◌<◌, ◌≤◌, true, false, not, ltb, List, length, get_or, Some, None, Option, sym, ap, ◌∙◌, inl, inr, arith, MatchOption}
 use Rattle.std.proofs.lemmas.Bool.{cases_lt, cases_eq, cases_Bool, and_left, and_right, le-ltb, eq-eqb}
 use Rattle.maps.specs.Marks.{marked}
+use Rattle.maps.specs.declared.marks.Marks.{Marks}
 use Rattle.maps.specs.Sets.{Spaces}
 use Rattle.crowding.specs.Orientation.{Rows}
 use Rattle.rows.specs.Search.{among, Search}
@@ -39,13 +40,13 @@ module _ (n : ℕ) (row : Rows) (S : Spaces) (queue parent turn : ℕ → ℕ) (
       ]
 
 pub answered
-    : (m : Memory) (marks : List ℕ) (tail a b : ℕ) → Searching m marks tail → 2 ≤ tail → queue_of m 0 ≡ a → queue_of m 1 ≡ b → (r : Option ℕ)
-    → MatchOption r (SpreadOut m marks tail) (λ w. (among m.n marks w ≡ true) × (length (rows_of m w) < m.k))
-    → MatchOption r (Stuck m marks a b) (λ w. Trail m (among m.n marks) a b w)
+    : (m : Memory) (marks : Marks) (tail a b : ℕ) → Searching m marks tail → 2 ≤ tail → queue_of m 0 ≡ a → queue_of m 1 ≡ b → (r : Option ℕ)
+    → MatchOption r (SpreadOut m marks tail) (λ w. (among m.n marks.bytes.now w ≡ true) × (length (rows_of m w) < m.k))
+    → MatchOption r (Stuck m marks a b) (λ w. Trail m (among m.n marks.bytes.now) a b w)
 answered m marks tail a b s two q₀ q₁ None h =
     record {
-      reached = settles m.n (rows_of m) (among m.n marks) (queue_of m) (parent_of m) (turn_of m) tail a b s q₀ q₁ m.k two h;
-      full = all_full m.n (rows_of m) (among m.n marks) (queue_of m) (parent_of m) (turn_of m) tail a b s q₀ q₁ m.k two h;
+      reached = settles m.n (rows_of m) (among m.n marks.bytes.now) (queue_of m) (parent_of m) (turn_of m) tail a b s q₀ q₁ m.k two h;
+      full = all_full m.n (rows_of m) (among m.n marks.bytes.now) (queue_of m) (parent_of m) (turn_of m) tail a b s q₀ q₁ m.k two h;
     }
 answered m marks tail a b s two q₀ q₁ (Some w) h =
-    λ links o. turning m.n (rows_of m) (among m.n marks) (queue_of m) (parent_of m) (turn_of m) tail a b s q₀ q₁ (λ _. m.k) links o w h.0 h.1
+    λ links o. turning m.n (rows_of m) (among m.n marks.bytes.now) (queue_of m) (parent_of m) (turn_of m) tail a b s q₀ q₁ (λ _. m.k) links o w h.0 h.1

@@ -6,6 +6,8 @@ use Rattle.std.proofs.lemmas.Bool.{cond-true, lt-ltb}
 use Rattle.crowding.specs.Orientation.{Rows}
 use Rattle.rows.specs.Past.{SameFrom}
 use Rattle.rows.specs.Search.{among, nth, Search, Grown}
+use Rattle.rows.specs.View.{queues, parents, turns}
+use Rattle.rows.specs.declared.memory.SpaceRecord.{SpaceRecord}
 use Rattle.rows.proofs.Changes.{past_write}
 use Rattle.rows.proofs.Finding.{size_more, size_le, search_more, grown_more, among_new, among_else}
 
@@ -56,3 +58,12 @@ module _
 -- what marking a space below n writes
 pub marked_so : (n n' x : ℕ) (m m' : List ℕ) → n' ≡ n → x < n → m' ≡ cond (ltb x n') (set m x 1) m → m' ≡ set m x 1
 marked_so n n' x m m' e l h = h ∙ cond-true (ltb x n') (set m x 1) m (lt-ltb x n' (omega arith))
+
+-- the same search, told of another number of spaces and other rows that are the same
+pub search_at
+    : (n n' : ℕ) (row row' : Rows) (m : List ℕ) (rs : List SpaceRecord) (tail : ℕ) → n' ≡ n → row' ≡ row
+    → Search n row (among n m) (nth (queues rs)) (nth (parents rs)) (nth (turns rs)) tail
+    → Search n' row' (among n' m) (nth (queues rs)) (nth (parents rs)) (nth (turns rs)) tail
+search_at n n' row row' m rs tail en er s =
+    subst (λ (x : ℕ). Search x row' (among x m) (nth (queues rs)) (nth (parents rs)) (nth (turns rs)) tail) (sym en)
+    (subst (λ (w : Rows). Search n w (among n m) (nth (queues rs)) (nth (parents rs)) (nth (turns rs)) tail) (sym er) s)
