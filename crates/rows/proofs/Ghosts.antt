@@ -1,11 +1,16 @@
 -- Memory that is in order, by the parts that a ghost field states.
-use Rattle.std.proofs.Common.{◌≡◌, ◌≢◌, ℕ, ◌*◌, ◌<◌, ◌≤◌, List, length, sym, refl, subst, arith}
-use Rattle.rows.specs.Keeping.{SameShape}
+use Rattle.std.proofs.Common.{◌≡◌, ◌≢◌, ℕ, ◌*◌, ◌<◌, ◌≤◌, List, length, sym, ◌∙◌, subst, arith}
+use Rattle.maps.specs.Links.{Link}
+use Rattle.crowding.specs.Orientation.{Oriented}
+use Rattle.rows.specs.Keeping.{Keeps, SameShape}
+use Rattle.rows.specs.Past.{SameFrom}
 use Rattle.rows.specs.Sound.{cell, Sound}
-use Rattle.rows.specs.View.{Ready, InSize, InNames, InFront}
-use Rattle.rows.proofs.Changes.{past_same}
+use Rattle.rows.specs.Steps.{SameBesideCells}
+use Rattle.rows.specs.View.{rows_of, Ready, InSize, InNames, InFront}
+use Rattle.rows.proofs.Changes.{past_same, past_trans}
 use Rattle.rows.specs.declared.link_rows.LinkRows.{LinkRows}
 use Rattle.rows.specs.declared.memory.Memory.{Memory}
+use Rattle.rows.specs.declared.memory.SpaceRecord.{SpaceRecord}
 
 pub ready_by : (m : Memory) → InSize m → InNames m → InFront m → Ready m
 ready_by m s n f =
@@ -51,8 +56,27 @@ ready_written m m' t en ek el et r s =
       room = omega (arith, r.room);
     }
 
-pub ready_after : (m m' : Memory) → Ready m → SameShape m m' → Ready m'
-ready_after m m' r s = record { sound = s.sound; room = omega (arith, s.records.len, s.n, r.room) }
+pub rest_trans : (m m' m'' : Memory) → SameBesideCells m m' → SameBesideCells m' m'' → SameBesideCells m m''
+rest_trans m m' m'' p q =
+    record {
+      n = q.n ∙ p.n;
+      k = q.k ∙ p.k;
+      records = q.records ∙ p.records;
+      past = past_trans (m.n * m.k) m.table.now m'.table.now m''.table.now p.past
+          (subst (λ (x : ℕ). SameFrom (m.n * x) m'.table.now m''.table.now) p.k (subst (λ (x : ℕ). SameFrom (x * m'.k) m'.table.now m''.table.now) p.n q.past));
+    }
 
-pub shape_same : (m : Memory) → Ready m → SameShape m m
-shape_same m r = record { n = refl; k = refl; records = past_same m.n m.records.now; sound = r.sound; past = past_same (m.n * m.k) m.table.now }
+pub shape_by : (m m' : Memory) → Ready m' → SameBesideCells m m' → SameShape m m'
+shape_by m m' r p =
+    record {
+      n = p.n;
+      k = p.k;
+      records = subst (λ (l : List SpaceRecord). SameFrom m.n m.records.now l) (sym p.records) (past_same m.n m.records.now);
+      sound = r.sound;
+      past = p.past;
+    }
+
+-- the links of memory that has these numbers
+pub keeps_at : (m : Memory) (n k : ℕ) (links : List Link) → m.n ≡ n → m.k ≡ k → Oriented (λ _. k) n (rows_of m) links → Keeps m links
+keeps_at m n k links en ek o =
+    subst (λ (x : ℕ). Oriented (λ _. m.k) x (rows_of m) links) (sym en) (subst (λ (x : ℕ). Oriented (λ _. x) n (rows_of m) links) (sym ek) o)

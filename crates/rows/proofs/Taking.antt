@@ -1,5 +1,6 @@
 -- A number taken out of a row: where it stands, and where the row's last occupied cell does.
-use Rattle.std.proofs.Common.{◌≡◌, ℕ, ◌+◌, ◌-◌, ◌*◌, ◌<◌, ◌≤◌, eqb, List, length, get_or, set, position, unwrap_or, Some, Option, sym, ap, ◌∙◌, subst, arith}
+use Rattle.std.proofs.Common.{◌≡◌, ℕ, ◌+◌, ◌-◌, ◌*◌, ◌<◌, ◌≤◌, Bool, true, false, MatchBool, eqb, List, length, get_or, set, position, unwrap_or, Some, Option, sym, ap, ◌∙◌, subst, arith}
+use Rattle.std.specs.List.{ContainsAt}
 use Rattle.maps.specs.Reading.{row}
 use Rattle.crowding.specs.Orientation.{Rows}
 use Rattle.crowding.specs.Putting.{Put}
@@ -67,3 +68,11 @@ module _
               (past_weaker (v * m.k + m.k) (m.n * m.k) m.table.now written (row_before m.n m.k v inside.0)
               (past_out m.k m.table.now v i (u - 1) c here.0 last.1 last.2 row_long here.1 some last.3));
         }
+
+-- what a row had is taken out
+pub out_of
+    : (m m' : Memory) (v c : ℕ) (b : Bool)
+    → MatchBool b (Put m.n v c (rows_of m') (rows_of m)) ((m'.table.now ≡ m.table.now) × (ContainsAt (rows_of m v) c → ⊥))
+    → ContainsAt (rows_of m v) c → Put m.n v c (rows_of m') (rows_of m)
+out_of m m' v c true p h = p
+out_of m m' v c false n h = absurd (n.1 h)

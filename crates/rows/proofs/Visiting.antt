@@ -3,11 +3,13 @@ use Rattle.std.proofs.Common.{◌≡◌, ℕ, ◌+◌, ◌*◌, ◌<◌, ◌≤�
 use Rattle.std.specs.List.{ContainsAt}
 use Rattle.std.proofs.lemmas.List.{get_or-map}
 use Rattle.std.proofs.lemmas.Bool.{cases_eq}
+use Rattle.maps.specs.Links.{Link}
 use Rattle.maps.specs.Marks.{marked}
 use Rattle.maps.specs.declared.marks.Marks.{Marks}
-use Rattle.crowding.specs.Orientation.{Rows}
+use Rattle.crowding.specs.Orientation.{Rows, Oriented}
 use Rattle.crowding.specs.Table.{table_rows}
 use Rattle.crowding.proofs.Tables.{row_full, row_has}
+use Rattle.rows.specs.Keeping.{Keeps, SameShape}
 use Rattle.rows.specs.Lent.{MarksOf, StillLent}
 use Rattle.rows.specs.Past.{SameFrom}
 use Rattle.rows.specs.Search.{among, Grown, Spread}
@@ -16,8 +18,9 @@ use Rattle.rows.specs.Steps.{Kept, Searching, WentOn, SpreadOut, ReadTo}
 use Rattle.rows.specs.View.{rows_of, queue_of, queued, parent_of, turn_of, Ready}
 use Rattle.rows.specs.declared.memory.Memory.{Memory}
 use Rattle.rows.specs.declared.memory.SpaceRecord.{SpaceRecord}
-use Rattle.rows.proofs.Changes.{past_same, past_trans}
+use Rattle.rows.proofs.Changes.{past_same, past_trans, past_at}
 use Rattle.rows.proofs.Finding.{grown_trans, among_in, spread_grown, tail_le}
+use Rattle.rows.proofs.Ghosts.{keeps_at}
 use Rattle.rows.proofs.Table.{row_in, row_cell}
 
 pub lent_trans : (n : ℕ) (a b c : Marks) → StillLent n a b → StillLent n b c → StillLent n a c
@@ -53,6 +56,21 @@ rows_same m m' ek et = ap (λ (k : ℕ). table_rows k m'.table.now) ek ∙ ap (t
 
 pub rows_kept : (m m' : Memory) (a b : Marks) → Kept m m' a b → rows_of m' ≡ rows_of m
 rows_kept m m' a b p = rows_same m m' p.k p.table
+
+-- a search leaves the links, and the shape
+pub keeps_kept : (m m' : Memory) (a b : Marks) → Kept m m' a b → (links : List Link) → Keeps m links → Keeps m' links
+keeps_kept m m' a b p links h =
+    keeps_at m' m.n m.k links p.n p.k (subst (λ (w : Rows). Oriented (λ _. m.k) m.n w links) (sym (rows_kept m m' a b p)) h)
+
+pub shape_kept : (m m' m'' : Memory) (a b : Marks) → Kept m m' a b → SameShape m' m'' → SameShape m m''
+shape_kept m m' m'' a b p q =
+    record {
+      n = q.n ∙ p.n;
+      k = q.k ∙ p.k;
+      records = past_trans m.n m.records.now m'.records.now m''.records.now p.records (subst (λ (n : ℕ). SameFrom n m'.records.now m''.records.now) p.n q.records);
+      sound = q.sound;
+      past = past_at (m'.n * m'.k) (m.n * m.k) m'.table.now m.table.now m''.table.now (ap (λ (x : ℕ). x * m'.k) p.n ∙ ap (λ (x : ℕ). m.n * x) p.k) p.table q.past;
+    }
 
 pub went_on_trans
     : (m m' m'' : Memory) (a b c : Marks) (t t' t'' : ℕ) → Kept m m' a b → WentOn m m' a b t t' → WentOn m' m'' b c t' t'' → WentOn m m'' a c t t''

@@ -5,8 +5,8 @@ use Rattle.maps.specs.Sets.{Spaces}
 use Rattle.maps.specs.declared.marks.Marks.{Marks}
 use Rattle.crowding.specs.Orientation.{Oriented}
 use Rattle.crowding.specs.Reach.{Reach}
-use Rattle.crowding.specs.Table.{table_rows}
 use Rattle.crowding.specs.Turning.{Turning}
+use Rattle.rows.specs.Keeping.{Keeps}
 use Rattle.rows.specs.Lent.{StillLent}
 use Rattle.rows.specs.Past.{SameFrom}
 use Rattle.rows.specs.Search.{among, Search, Grown, Spread}
@@ -75,5 +75,5 @@ pub record Stuck (m : Memory) (marks : Marks) (a b : ℕ) : Type 0 where
 -- the cells keep the same links, and row r has a free one
 pub record TurnedTo (m m' : Memory) (r : ℕ) : Type 0 where
   pub rest : SameBesideCells m m'
-  pub free : length (table_rows m.k m'.table.now r) < m.k
-  pub links : (links : List Link) → Oriented (λ _. m.k) m.n (rows_of m) links → Oriented (λ _. m.k) m.n (table_rows m.k m'.table.now) links
+  pub free : length (rows_of m' r) < m'.k
+  pub links : (links : List Link) → Keeps m links → Keeps m' links
