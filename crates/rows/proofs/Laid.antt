@@ -1,9 +1,10 @@
 -- A link laid in rows of a table, and rows that keep none.
-use Rattle.std.proofs.Common.{◌≡◌, ℕ, ◌+◌, ◌*◌, ◌<◌, ◌≤◌, ◌⊎◌, List, [], ◌∷◌, length, get_or, sym, ap, ◌∙◌, subst, inl, inr, mul-le-mul_right, arith}
+use Rattle.std.proofs.Common.{◌≡◌, ℕ, ◌+◌, ◌*◌, ◌<◌, ◌≤◌, ◌⊎◌, List, [], ◌∷◌, length, get_or, Ok, Err, Result, sym, ap, ◌∙◌, subst, inl, inr, mul-le-mul_right, arith}
 use Rattle.std.specs.List.{ContainsAt}
 use Rattle.std.proofs.lemmas.List.Sums.{sum_by-cons}
-use Rattle.maps.specs.Density.{Crowded}
+use Rattle.maps.specs.Density.{Crowded as Crowded-map}
 use Rattle.maps.specs.Links.{Link}
+use Rattle.maps.specs.Marks.{Cleared}
 use Rattle.crowding.specs.Bags.{SameLinks}
 use Rattle.crowding.specs.Orientation.{Rows, Oriented, cells}
 use Rattle.crowding.specs.Putting.{Put}
@@ -11,10 +12,13 @@ use Rattle.crowding.specs.Table.{table_rows}
 use Rattle.crowding.proofs.Moves.{laid, relinked}
 use Rattle.crowding.proofs.Sums.{bit}
 use Rattle.crowding.proofs.Uniform.{not_crowded}
-use Rattle.rows.specs.Keeping.{Keeps, Laid}
-use Rattle.rows.specs.LayEnd.{Ends}
+use Rattle.rows.specs.Calls.{LayAnswer, LongEnough}
+use Rattle.rows.specs.Keeping.{Keeps, Laid, SameShape}
+use Rattle.rows.specs.LayEnd.{Ends, LayEnd, TwoSpaces}
 use Rattle.rows.specs.Sound.{Sound}
 use Rattle.rows.specs.View.{rows_of}
+use Rattle.rows.specs.declared.link_rows.calls.Refusal.{Refusal}
+use Rattle.rows.specs.declared.link_rows.calls.Refusal.TheVariants.{ShortMemory, EndOutOfRange, EqualEnds, Crowded}
 use Rattle.rows.specs.declared.memory.Memory.{Memory}
 use Rattle.rows.proofs.Backward.{own}
 use Rattle.rows.proofs.Ghosts.{keeps_at}
@@ -44,7 +48,7 @@ module _
             (swapped a b links)
       ]
 
-  laid_fits : Crowded k n ((a, b) ∷ links) → ⊥
+  laid_fits : Crowded-map k n ((a, b) ∷ links) → ⊥
   laid_fits = not_crowded k n row' ((a, b) ∷ links) laid_here
 
 -- the links are the same until one is put into row r
@@ -54,8 +58,8 @@ pub laid_by
 laid_by m m₁ m' a b r o la lb ends en ek en' ek' same free put =
     record {
       keeps = λ links h. keeps_at m' m₁.n m₁.k ((a, b) ∷ links) en' ek' (laid_here m₁.n m₁.k (rows_of m₁) (rows_of m') links a b r o la lb ends (same links h) free put);
-      fits = λ links h. subst (λ (x : ℕ). Crowded m.k x ((a, b) ∷ links) → ⊥) en
-          (subst (λ (x : ℕ). Crowded x m₁.n ((a, b) ∷ links) → ⊥) ek (laid_fits m₁.n m₁.k (rows_of m₁) (rows_of m') links a b r o la lb ends (same links h) free put));
+      fits = λ links h. subst (λ (x : ℕ). Crowded-map m.k x ((a, b) ∷ links) → ⊥) en
+          (subst (λ (x : ℕ). Crowded-map x m₁.n ((a, b) ∷ links) → ⊥) ek (laid_fits m₁.n m₁.k (rows_of m₁) (rows_of m') links a b r o la lb ends (same links h) free put));
     }
 
 -- rows whose cells are all empty keep nothing
@@ -81,3 +85,13 @@ empty_sound n k t ln lk long h =
 pub ends_in : (n a b r o : ℕ) → a < n → b < n → Ends a b r o → (r < n) × (o < n)
 ends_in n a b r o la lb (inl (p, q)) = (rw p la, rw q lb)
 ends_in n a b r o la lb (inr (p, q)) = (rw p lb, rw q la)
+
+-- how a search ends, past the first three reasons
+pub lay_by
+    : (m m' : Memory) (a b : ℕ) (before after marks marks' : List ℕ) → LongEnough m before marks → TwoSpaces m a b → SameShape m m' → Cleared m.n marks marks'
+    → (r : Result (Unit {0}) Refusal) → LayEnd m m' a b before after r → LayAnswer m m' a b before after marks marks' r
+lay_by m m' a b before after marks marks' long ends shape clear (Ok _) e = (long, (ends.0, ends.1), ends.2, e.0, shape, e.1, clear)
+lay_by m m' a b before after marks marks' long ends shape clear (Err Crowded) e = (long, (ends.0, ends.1), ends.2, e.1, shape, e.2, clear)
+lay_by m m' a b before after marks marks' long ends shape clear (Err ShortMemory) e = let no : ⊥ = cc (e.0) in absurd no
+lay_by m m' a b before after marks marks' long ends shape clear (Err EndOutOfRange) e = let no : ⊥ = cc (e.0) in absurd no
+lay_by m m' a b before after marks marks' long ends shape clear (Err EqualEnds) e = let no : ⊥ = cc (e.0) in absurd no

@@ -1,5 +1,5 @@
 -- What a search keeps from step to step, and one cell of a row.
-use Rattle.std.proofs.Common.{◌≡◌, ℕ, ◌+◌, ◌*◌, ◌<◌, ◌≤◌, Bool, true, ◌&&◌, ltb, List, length, get_or, sym, refl, ap, ◌∙◌, subst, inl, inr, arith}
+use Rattle.std.proofs.Common.{◌≡◌, ℕ, ◌+◌, ◌*◌, ◌<◌, ◌≤◌, Bool, true, ◌&&◌, ltb, List, length, get_or, Decides, sym, refl, ap, ◌∙◌, subst, inl, inr, arith}
 use Rattle.std.specs.List.{ContainsAt}
 use Rattle.std.proofs.lemmas.List.{get_or-map}
 use Rattle.std.proofs.lemmas.Bool.{cases_eq}
@@ -7,6 +7,7 @@ use Rattle.maps.specs.Links.{Link}
 use Rattle.maps.specs.Marks.{marked}
 use Rattle.maps.specs.declared.marks.Marks.{Marks}
 use Rattle.crowding.specs.Orientation.{Rows, Oriented}
+use Rattle.crowding.specs.Reach.{Reach}
 use Rattle.crowding.specs.Table.{table_rows}
 use Rattle.crowding.proofs.Tables.{row_full, row_has}
 use Rattle.rows.specs.Keeping.{Keeps, SameShape}
@@ -14,7 +15,7 @@ use Rattle.rows.specs.Lent.{MarksOf, StillLent}
 use Rattle.rows.specs.Past.{SameFrom}
 use Rattle.rows.specs.Search.{among, Grown, Spread}
 use Rattle.rows.specs.Sound.{cell, Sound}
-use Rattle.rows.specs.Steps.{Kept, Searching, WentOn, SpreadOut, ReadTo}
+use Rattle.rows.specs.Steps.{Kept, Searching, WentOn, SpreadOut, ReadTo, Stuck}
 use Rattle.rows.specs.View.{rows_of, queue_of, queued, parent_of, turn_of, Ready}
 use Rattle.rows.specs.declared.memory.Memory.{Memory}
 use Rattle.rows.specs.declared.memory.SpaceRecord.{SpaceRecord}
@@ -61,6 +62,25 @@ rows_kept m m' a b p = rows_same m m' p.k p.table
 pub keeps_kept : (m m' : Memory) (a b : Marks) → Kept m m' a b → (links : List Link) → Keeps m links → Keeps m' links
 keeps_kept m m' a b p links h =
     keeps_at m' m.n m.k links p.n p.k (subst (λ (w : Rows). Oriented (λ _. m.k) m.n w links) (sym (rows_kept m m' a b p)) h)
+
+pub stuck_kept : (m m' : Memory) (x y : Marks) → Kept m m' x y → (a b : ℕ) → Stuck m' y a b → Stuck m y a b
+stuck_kept m m' x y p a b s =
+    let e : rows_of m' ≡ rows_of m = rows_kept m m' x y p in
+    record {
+      reached = λ z. subst (λ (n : ℕ). Decides (among n y.bytes.now z) (Reach (rows_of m) a b z)) p.n
+          (subst (λ (w : Rows). Decides (among m'.n y.bytes.now z) (Reach w a b z)) e (s.reached z));
+      full = λ z h. ap (λ (w : Rows). length (w z)) (sym e) ∙ s.full z (subst (λ (w : Rows). Reach w a b z) (sym e) h) ∙ p.k;
+    }
+
+pub shape_searched : (m m' : Memory) (a b : Marks) → Kept m m' a b → Ready m' → SameShape m m'
+shape_searched m m' a b p r =
+    record {
+      n = p.n;
+      k = p.k;
+      records = p.records;
+      sound = r.sound;
+      past = subst (λ (t : List ℕ). SameFrom (m.n * m.k) m.table.now t) (sym p.table) (past_same (m.n * m.k) m.table.now);
+    }
 
 pub shape_kept : (m m' m'' : Memory) (a b : Marks) → Kept m m' a b → SameShape m' m'' → SameShape m m''
 shape_kept m m' m'' a b p q =

@@ -1,10 +1,11 @@
 // The calls on links kept in rows. Each tests first.
+ghost use Rattle.maps.specs.Reading.{reading};
 ghost use Rattle.rows.specs.Calls.{ClearAnswer, InsideEnds, LayAnswer, LiftAnswer, OutsideEnd, ReadAnswer, enough};
 ghost use Rattle.rows.specs.Guarded.{LayGuardedAnswer};
 ghost use Rattle.rows.specs.Keeping.{Keeps, OwnLinks};
 ghost use Rattle.rows.specs.LayEnd.{EndsChecked};
 ghost use Rattle.rows.specs.Past.{SameFrom};
-ghost use Rattle.std.specs.Prelude.{◌≡◌, [], length, is_ok, MatchBool};
+ghost use Rattle.std.specs.Prelude.{◌≡◌, ◌*◌, ◌≤◌, [], length, is_ok, MatchBool};
 
 use crate::link_rows::LinkRows;
 use crate::memory::{Memory, SpaceRecord};
@@ -150,11 +151,18 @@ impl<'a> LinkRows<'a> {
         self.take_out(a, b) || self.take_out(b, a)
     }
 
+    // Reads the rows of `a` and `b`, as far as the table has them.
+    fn read_rows(&self, a: u16, b: u16) -> Reading
+        ensures rule { (result.linked, result.cells) ≡ reading self.now.memory.k self.now.memory.table.now a b }
+        ensures few { result.cells ≤ 2 * self.now.memory.k }
+    {
+        read_link(self.memory.table, self.memory.k as u16, a, b)
+    }
+
     // Reads the rows of `a` and `b` for their link. None if one of them is no space.
     pub fn read(&self, a: u16, b: u16) -> Option<Reading>
         ensures { ReadAnswer self.now.memory a b result }
     {
-        self.has_both(a, b)
-            .then(|| read_link(self.memory.table, self.memory.k as u16, a, b))
+        self.has_both(a, b).then_some(self.read_rows(a, b))
     }
 }
