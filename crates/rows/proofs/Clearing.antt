@@ -7,12 +7,13 @@ use Rattle.maps.specs.Sets.{Spaces, bytes}
 use Rattle.maps.specs.declared.marks.Marks.{Marks}
 use Rattle.crowding.proofs.Uniform.{crowding_at}
 use Rattle.rows.specs.Keeping.{Reported}
+use Rattle.rows.specs.Lent.{StillLent}
 use Rattle.rows.specs.Past.{SameFrom}
 use Rattle.rows.specs.Search.{among}
 use Rattle.rows.specs.Steps.{Stuck}
 use Rattle.rows.specs.View.{rows_of}
 use Rattle.rows.specs.declared.memory.Memory.{Memory}
-use Rattle.rows.proofs.Changes.{past_place, past_by_places}
+use Rattle.rows.proofs.Changes.{past_place, past_by_places, past_trans}
 
 pub cleared_again : (n n' : ℕ) (a b c d : List ℕ) → n' ≡ n → Cleared n a b → SameFrom n b c → Cleared n' c d → Cleared n a d
 cleared_again n n' a b c d e p q r =
@@ -24,6 +25,10 @@ cleared_again n n' a b c d e p q r =
 
 pub cleared_past : (n n' : ℕ) (a b : List ℕ) → n ≡ n' → Cleared n a b → SameFrom n' a b
 cleared_past n n' a b e p = past_by_places n' a b p.len (λ x l. p.high x (omega arith))
+
+-- marks cleared, and then used
+pub searched_marks : (n : ℕ) (x y z : Marks) → x.n ≡ n → Cleared x.n x.bytes.now y.bytes.now → StillLent n y z → SameFrom n x.bytes.now z.bytes.now
+searched_marks n x y z e p q = past_trans n x.bytes.now y.bytes.now z.bytes.now (cleared_past x.n n x.bytes.now y.bytes.now e p) q.bytes
 
 -- bytes written one by one
 pub bytes_written

@@ -1,6 +1,5 @@
-use Rattle.std.proofs.Common.{◌≡◌, refl, rules}
-use Rattle.rows.proofs.Changes.{past_trans}
-use Rattle.rows.proofs.Clearing.{cleared_past}
+use Rattle.std.proofs.Common.{refl, rules}
+use Rattle.rows.proofs.Clearing.{searched_marks}
 use Rattle.rows.proofs.Ghosts.{ready_of, shape_by}
 use Rattle.rows.proofs.Laid.{laid_by}
 use Rattle.rows.proofs.link_rows.LinkRows.lay_guarded.Goals as goal
@@ -21,9 +20,4 @@ returns-in-Some-clause-answer c =
     )
 
 pub returns-clause-marks : goal.returns-clause-marks
-returns-clause-marks c =
-    let m = c.args.self.now.memory in
-    let x = c.args.marks.now in
-    let is : x.n ≡ m.n = search rules in
-    past_trans m.n x.bytes.now c.unmark_all.new.self.bytes.now c.lay_by_search.new.marks.bytes.now
-    (cleared_past x.n m.n x.bytes.now c.unmark_all.new.self.bytes.now is c.unmark_all.ensures.bytes) c.lay_by_search.ensures.marks.bytes
+returns-clause-marks c = search (rules, searched_marks)

@@ -45,7 +45,7 @@ pub put_in-requires-clause-free : goal.put_in-requires-clause-free
 put_in-requires-clause-free c =
     let i = c.back.invariant in
     w_room c.args.self.now.memory c.back.self.memory (ready_of c.args.self.now) (ready_of c.back.self) i.0 i.1.0 c.args.a c.args.b c.back.w i.1.1 c.if-w-a.false c.if-w-b.false c.take_out.new.self.memory c.take_out.ensures.rest
-        (out_of c.back.self.memory c.take_out.new.self.memory _ c.back.w c.take_out.result c.take_out.ensures.answer (parent_has c.args.self.now.memory c.back.self.memory (ready_of c.args.self.now) (ready_of c.back.self) i.0 i.1.0 c.args.a c.args.b c.back.w i.1.1 c.if-w-a.false c.if-w-b.false))
+    (out_of c.back.self.memory c.take_out.new.self.memory _ c.back.w c.take_out.result c.take_out.ensures.answer (parent_has c.args.self.now.memory c.back.self.memory (ready_of c.args.self.now) (ready_of c.back.self) i.0 i.1.0 c.args.a c.args.b c.back.w i.1.1 c.if-w-a.false c.if-w-b.false))
 
 pub back-smaller : goal.back-smaller
 back-smaller c =
@@ -56,8 +56,7 @@ pub back-preserved : goal.back-preserved
 back-preserved c =
     let i = c.back.invariant in
     let s = c.back.self.memory in
-    let s' = c.take_out.new.self.memory in
-    (
+    let s' = c.take_out.new.self.memory in (
       rest_trans c.args.self.now.memory s c.put_in.new.self.memory i.0 (rest_trans s s' c.put_in.new.self.memory c.take_out.ensures.rest c.put_in.ensures.rest),
       (
         i.1.0,
