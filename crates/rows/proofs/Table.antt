@@ -1,7 +1,8 @@
 -- Writes into a table of rows.
-use Rattle.std.proofs.Common.{◌≡◌, ℕ, ◌+◌, ◌-◌, ◌*◌, ◌<◌, ◌≤◌, Bool, true, ◌&&◌, eqb, ◌⊎◌, List, length, get_or, take, drop, set, count_by, position, unwrap_or, is_some, MatchBool, Some, None, Option, sym, ap, ◌∙◌, subst, inl, inr, mul-le-mul_right, arith}
+use Rattle.std.proofs.Common.{◌≡◌, ℕ, ◌+◌, ◌-◌, ◌*◌, ◌/◌, ◌%◌, ◌<◌, ◌≤◌, Bool, true, ◌&&◌, eqb, ◌⊎◌, List, length, get_or, take, drop, set, count_by, position, unwrap_or, is_some, MatchBool, Some, None, Option, sym, ap, ◌∙◌, subst, inl, inr, mul-le-mul_right, arith}
 use Rattle.std.specs.List.{ContainsAt, position_or_len}
 use Rattle.std.proofs.lemmas.Grind.{common_steps}
+use Rattle.std.proofs.lemmas.Nat.{div-mul-add, mod-mul-add}
 use Rattle.std.proofs.lemmas.List.{length-set, length-take, length-drop, get_or-take, get_or-drop, get_or-set_same, get_or-set_other}
 use Rattle.std.proofs.lemmas.List.Quantifiers.{position-Some}
 use Rattle.std.proofs.lemmas.List.Sums.{sum_by-cons, fails_before_first}
@@ -18,12 +19,10 @@ use Rattle.rows.proofs.Changes.{past_write, past_trans}
 
 -- cells of different rows, or at different places of a row, are different
 pub apart : (k v w i j : ℕ) → i < k → j < k → v * k + i ≡ w * k + j → (v ≡ w) × (i ≡ j)
-apart k v w i j li lj e =
-    elim (cases_order v w) [
-      | inl q ↦ (q, omega (arith, ap (λ (x : ℕ). x * k) q))
-      | inr (inl b) ↦ absurd (omega (arith, mul-le-mul_right k b))
-      | inr (inr a) ↦ absurd (omega (arith, mul-le-mul_right k a))
-    ]
+apart k v w i j li lj e = (
+  sym (div-mul-add v k i li) ∙ ap (λ (x : ℕ). x / k) e ∙ div-mul-add w k j lj,
+  sym (mod-mul-add v k i li) ∙ ap (λ (x : ℕ). x % k) e ∙ mod-mul-add w k j lj,
+)
 
 -- row v of n lies in the table
 pub row_in : (n k len v : ℕ) → n * k ≤ len → v < n → v * k + k ≤ len
@@ -175,13 +174,6 @@ room_by k t v long (Some i) e b h =
     subst (λ (x : Bool). MatchBool x (length (table_rows k t v) < k) (length (table_rows k t v) ≡ k)) (sym h) ((row_full k t v long).1 i f.0 f.1)
 room_by k t v long None e b h =
     subst (λ (x : Bool). MatchBool x (length (table_rows k t v) < k) (length (table_rows k t v) ≡ k)) (sym h) ((row_full k t v long).0 (found_none k t v 65535 long (sym e)))
-
--- where a search for an empty cell stops
-pub free_found
-    : (k : ℕ) (t : List ℕ) (v r : ℕ) → v * k + k ≤ length t → r ≤ k → ((j : ℕ) → j < r → cell k t v j ≡ 65535 → ⊥)
-    → length (table_rows k t v) < k → r < k
-free_found k t v r row le h free =
-    elim (cases_lt r k) [ inl l ↦ l | inr ge ↦ absurd (omega (arith, (row_full k t v row).0 (λ j lj. h j (omega arith)))) ]
 
 -- what no cell has, no row has
 pub not_there

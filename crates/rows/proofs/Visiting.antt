@@ -27,9 +27,6 @@ use Rattle.rows.proofs.Table.{row_in, row_cell}
 pub lent_trans : (n : ℕ) (a b c : Marks) → StillLent n a b → StillLent n b c → StillLent n a c
 lent_trans n a b c p q = record { n = q.n ∙ p.n; same = q.same ∙ p.same; bytes = past_trans n a.bytes.now b.bytes.now c.bytes.now p.bytes q.bytes }
 
-pub kept_same : (m : Memory) (marks : Marks) → Kept m m marks marks
-kept_same m marks = record { n = refl; k = refl; table = refl; records = past_same m.n m.records.now; lent = record { n = refl; same = refl; bytes = past_same m.n marks.bytes.now } }
-
 pub kept_trans : (m m' m'' : Memory) (a b c : Marks) → Kept m m' a b → Kept m' m'' b c → Kept m m'' a c
 kept_trans m m' m'' a b c p q =
     record {

@@ -10,6 +10,7 @@ use crate::link_rows::LinkRows;
 use maps::marks::Marks;
 use maps::reading::EMPTY;
 
+// Rows, marks and `tail` stay apart: a struct of both references would have to say in every call that it still holds the same two.
 impl LinkRows<'_> {
     // Notes the space `x`, found from `parent`, as the next one.
     fn note(&mut self, marks: &mut Marks<'_>, x: u16, parent: u16, tail: usize)
@@ -38,6 +39,7 @@ impl LinkRows<'_> {
         let k = self.memory.k;
         let from = v as usize * k;
         let mut tail = tail;
+        // By index: `note` writes into the rows, so none of their cells can stay lent to an iterator.
         for j in 0..k {
             let c = self.memory.table[from + j];
             if c == EMPTY {
@@ -51,7 +53,7 @@ impl LinkRows<'_> {
         Some(tail)
     }
 
-    // The space at place `head` of the queue, which ends at `tail`.
+    // The space at place `head` of the queue, which ends at `tail`. The queue lies in the lent records: no heap.
     fn next_found(&self, head: usize, tail: usize) -> Option<u16>
         requires { tail ≤ length self.now.memory.records.now }
         ensures { MatchOption result (tail ≤ head) (λ v. (head < tail) × (v ≡ queued self.now.memory head)) }
