@@ -1,7 +1,6 @@
 -- How a search begins, and what it has shown when it ends.
-use Rattle.std.proofs.Common.{◌≡◌, ℕ, ◌<◌, ◌≤◌, true, false, not, ltb, List, length, get_or, Some, None, Option, sym, ap, ◌∙◌, inl, inr, arith, MatchOption}
-use Rattle.std.proofs.lemmas.Bool.{cases_lt, cases_eq, cases_Bool, and_left, and_right, le-ltb, eq-eqb}
-use Rattle.maps.specs.Marks.{marked}
+use Rattle.std.proofs.Common.{◌≡◌, ℕ, ◌<◌, ◌≤◌, true, length, Some, None, Option, sym, ap, ◌∙◌, inl, inr, arith, MatchOption}
+use Rattle.std.proofs.lemmas.Bool.{cases_eq}
 use Rattle.maps.specs.declared.marks.Marks.{Marks}
 use Rattle.maps.specs.Sets.{Spaces}
 use Rattle.crowding.specs.Orientation.{Rows}

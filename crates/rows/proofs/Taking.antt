@@ -6,7 +6,7 @@ use Rattle.crowding.specs.Orientation.{Rows}
 use Rattle.crowding.specs.Putting.{Put}
 use Rattle.crowding.specs.Table.{table_rows}
 use Rattle.rows.specs.Past.{SameFrom}
-use Rattle.rows.specs.Sound.{cell, Sound}
+use Rattle.rows.specs.Sound.{cell}
 use Rattle.rows.specs.Steps.{SameBesideCells}
 use Rattle.rows.specs.View.{rows_of, Ready}
 use Rattle.rows.specs.declared.memory.Memory.{Memory}

@@ -1,5 +1,4 @@
-use Rattle.std.proofs.Common.{◌<◌, refl, ◌∙◌, arith}
-use Rattle.rows.specs.Steps.{seen}
+use Rattle.std.proofs.Common.{refl, ◌∙◌, arith}
 use Rattle.rows.proofs.Clearing.{reported}
 use Rattle.rows.proofs.Ghosts.{ready_of, rest_trans, shape_by}
 use Rattle.rows.proofs.Laid.{laid_by}

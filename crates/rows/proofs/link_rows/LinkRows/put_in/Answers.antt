@@ -1,8 +1,7 @@
 use Rattle.std.proofs.Common.{◌+◌, ◌*◌, ◌<◌, length, sym, arith}
 use Rattle.crowding.proofs.Tables.{row_full, table_writes}
-use Rattle.rows.specs.Sound.{Sound}
 use Rattle.rows.proofs.Ghosts.{ready_of, names_in, front_in}
-use Rattle.rows.proofs.Table.{row_in, found_at, found_none, sound_put, past_set}
+use Rattle.rows.proofs.Table.{row_in, found_at, found_none, sound_put}
 use Rattle.rows.proofs.link_rows.LinkRows.put_in.Goals as goal
 
 pub invariant_of-self : goal.invariant_of-self

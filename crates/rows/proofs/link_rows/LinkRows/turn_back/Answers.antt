@@ -1,8 +1,4 @@
-use Rattle.std.proofs.Common.{◌<◌, MatchBool, true, false, sym, arith}
-use Rattle.std.proofs.lemmas.Bool.{cases_Bool}
-use Rattle.crowding.specs.Putting.{Put}
-use Rattle.rows.specs.Steps.{TurnedTo}
-use Rattle.rows.specs.View.{rows_of}
+use Rattle.std.proofs.Common.{arith}
 use Rattle.rows.proofs.Backward.{w_space, w_record, turned_to, parent_space, parent_has, parent_before, w_room, parent_trail}
 use Rattle.rows.proofs.Ghosts.{ready_of, rest_trans}
 use Rattle.rows.proofs.Taking.{out_of}

@@ -1,4 +1,4 @@
-use Rattle.std.proofs.Common.{ℕ, List, refl, ◌∙◌, inr, arith, below_more}
+use Rattle.std.proofs.Common.{refl, ◌∙◌, inr, arith, below_more}
 use Rattle.rows.specs.Search.{among}
 use Rattle.rows.specs.View.{rows_of, queue_of, parent_of, turn_of}
 use Rattle.rows.proofs.Ghosts.{ready_of}
