@@ -11,14 +11,14 @@ use Rattle.crowding.specs.Table.{table_rows}
 use Rattle.crowding.specs.Turning.{Turning}
 use Rattle.rows.specs.Keeping.{Keeps}
 use Rattle.rows.specs.Sound.{Sound}
-use Rattle.rows.specs.Steps.{SameBesideCells, TurnedTo}
+use Rattle.rows.specs.Steps.{SameBesideCells, TurnedTo, OnTheWay}
 use Rattle.rows.specs.View.{parents, rows_of, parent_of, turn_of, Ready}
 use Rattle.crowding.proofs.Tables.{row_full}
 use Rattle.crowding.proofs.Moves.{put_lengths}
 use Rattle.crowding.proofs.Turning.{turned}
 use Rattle.rows.specs.declared.memory.Memory.{Memory}
 use Rattle.rows.specs.declared.memory.SpaceRecord.{SpaceRecord}
-use Rattle.rows.proofs.Ghosts.{keeps_at}
+use Rattle.rows.proofs.Ghosts.{keeps_at, rest_trans}
 use Rattle.rows.proofs.Table.{row_in, row_cell, row_some}
 
 -- rows that are in order keep their own cells
@@ -89,11 +89,9 @@ put_of : (n n' u v : ℕ) (row row' : Rows) → n ≡ n' → Put n u v row row' 
 put_of n n' u v row row' e p = subst (λ (x : ℕ). Put x u v row row') e p
 
 -- the same of memory s, in which some links are turned
-module _
-    (m s : Memory) (r : Ready m) (rs : Ready s) (rest : SameBesideCells m s) (found : Spaces) (a b w : ℕ)
-    (trail : (links : List Link) → Keeps m links → Turning (λ _. m.k) m.n links a b found (parent_of m) (turn_of m) (rows_of s) w) where
+module _ {m s : Memory} {a b w : ℕ} (i : OnTheWay m s a b w) (r : Ready m) (rs : Ready s) where
   pub w_space : w < s.n
-  w_space = omega (arith, w_in m r (rows_of s) found a b w trail, rest.n)
+  w_space = omega (arith, w_in m r (rows_of s) i.found a b w i.trail, i.rest.n)
 
   pub w_record : w < length s.records.now
   w_record = omega (arith, w_space, rs.room)
@@ -101,35 +99,37 @@ module _
   pub turned_to : TurnedTo m s w
   turned_to =
       record {
-        rest = rest;
-        free = omega (arith, w_free m r (rows_of s) found a b w trail, rest.k);
-        links = λ links o. keeps_at s m.n m.k links rest.n rest.k (trail links o).board;
+        rest = i.rest;
+        free = omega (arith, w_free m r (rows_of s) i.found a b w i.trail, i.rest.k);
+        links = λ links o. keeps_at s m.n m.k links i.rest.n i.rest.k (i.trail links o).board;
       }
 
   abbrev parent : ℕ
   parent = (get_or s.records.now w (record { parent = 0; queue = 0; turn = 0 })).parent
 
   is : parent_of m w ≡ parent
-  is = parent_at m s w rest.records w_record
+  is = parent_at m s w i.rest.records w_record
 
   module _ (na : w ≡ a → ⊥) (nb : w ≡ b → ⊥) where
     pub parent_space : parent < s.n
-    parent_space = omega (arith, p_in m r (rows_of s) found a b w trail parent is na nb, rest.n)
+    parent_space = omega (arith, p_in m r (rows_of s) i.found a b w i.trail parent is na nb, i.rest.n)
 
     pub parent_has : ContainsAt (rows_of s parent) w
-    parent_has = p_has m r (rows_of s) found a b w trail parent is na nb
+    parent_has = p_has m r (rows_of s) i.found a b w i.trail parent is na nb
 
     pub parent_before : turn_of m parent < turn_of m w
-    parent_before = p_less m r (rows_of s) found a b w trail parent is na nb
+    parent_before = p_less m r (rows_of s) i.found a b w i.trail parent is na nb
 
-    module _ (s' : Memory) (rest' : SameBesideCells s s') (out : Put s.n parent w (rows_of s') (rows_of s)) where
+    module _ {s' : Memory} (rest' : SameBesideCells s s') (out : Put s.n parent w (rows_of s') (rows_of s)) where
       pub w_room : length (rows_of s' w) < s'.k
       w_room =
-          omega (arith, mid_free m r (rows_of s) found a b w trail parent is na nb (rows_of s') (put_of s.n m.n parent w (rows_of s') (rows_of s) rest.n out), rest.k, rest'.k)
+          omega (arith, mid_free m r (rows_of s) i.found a b w i.trail parent is na nb (rows_of s') (put_of s.n m.n parent w (rows_of s') (rows_of s) i.rest.n out), i.rest.k, rest'.k)
 
-      pub parent_trail
-          : (s'' : Memory) → Put s'.n w parent (rows_of s') (rows_of s'')
-          → (links : List Link) → Keeps m links → Turning (λ _. m.k) m.n links a b found (parent_of m) (turn_of m) (rows_of s'') parent
-      parent_trail s'' in' =
-          trail_on m r (rows_of s) found a b w trail parent is na nb (rows_of s') (put_of s.n m.n parent w (rows_of s') (rows_of s) rest.n out)
-          (rows_of s'') (put_of s'.n m.n w parent (rows_of s') (rows_of s'') (rest'.n ∙ rest.n) in')
+      pub gone_on : (s'' : Memory) → SameBesideCells s' s'' → Put s'.n w parent (rows_of s') (rows_of s'') → OnTheWay m s'' a b parent
+      gone_on s'' rest'' in' =
+          record {
+            rest = rest_trans m s s'' i.rest (rest_trans s s' s'' rest' rest'');
+            found = i.found;
+            trail = trail_on m r (rows_of s) i.found a b w i.trail parent is na nb (rows_of s') (put_of s.n m.n parent w (rows_of s') (rows_of s) i.rest.n out)
+                (rows_of s'') (put_of s'.n m.n w parent (rows_of s') (rows_of s'') (rest'.n ∙ i.rest.n) in');
+          }

@@ -71,8 +71,8 @@ module _
 
 -- what a row had is taken out
 pub out_of
-    : (m m' : Memory) (v c : ℕ) (b : Bool)
+    : {m m' : Memory} → SameBesideCells m m' → (v c : ℕ) (b : Bool)
     → MatchBool b (Put m.n v c (rows_of m') (rows_of m)) ((m'.table.now ≡ m.table.now) × (ContainsAt (rows_of m v) c → ⊥))
     → ContainsAt (rows_of m v) c → Put m.n v c (rows_of m') (rows_of m)
-out_of m m' v c true p h = p
-out_of m m' v c false n h = absurd (n.1 h)
+out_of _ v c true p h = p
+out_of _ v c false n h = absurd (n.1 h)

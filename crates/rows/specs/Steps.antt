@@ -77,3 +77,9 @@ pub record TurnedTo (m m' : Memory) (r : ℕ) : Type 0 where
   pub rest : SameBesideCells m m'
   pub free : length (rows_of m' r) < m'.k
   pub links : (links : List Link) → Keeps m links → Keeps m' links
+
+-- from m on, links were turned on the way back from a free cell that a search found, which is now at w
+pub record OnTheWay (m m' : Memory) (a b w : ℕ) : Type 0 where
+  pub rest : SameBesideCells m m'
+  pub found : Spaces
+  pub trail : (links : List Link) → Keeps m links → Turning (λ _. m.k) m.n links a b found (parent_of m) (turn_of m) (rows_of m') w

@@ -58,11 +58,7 @@ impl LinkRows<'_> {
         requires { tail ≤ length self.now.memory.records.now }
         ensures { MatchOption result (tail ≤ head) (λ v. (head < tail) × (v ≡ queued self.now.memory head)) }
     {
-        if head < tail {
-            Some(self.memory.records[head].queue)
-        } else {
-            None
-        }
+        self.memory.records[..tail].get(head).map(|found| found.queue)
     }
 
     // Goes through the spaces found, beginning with the two that are noted, until one has a free cell.
