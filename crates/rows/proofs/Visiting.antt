@@ -24,21 +24,21 @@ use Rattle.rows.proofs.Finding.{grown_trans, among_in, spread_grown, tail_le}
 use Rattle.rows.proofs.Ghosts.{keeps_at}
 use Rattle.rows.proofs.Table.{row_in, row_cell}
 
-pub lent_trans : (n : ℕ) (a b c : Marks) → StillLent n a b → StillLent n b c → StillLent n a c
-lent_trans n a b c p q = record { n = q.n ∙ p.n; same = q.same ∙ p.same; bytes = past_trans n a.bytes.now b.bytes.now c.bytes.now p.bytes q.bytes }
+pub lent_trans : {n : ℕ} {a b c : Marks} → StillLent n a b → StillLent n b c → StillLent n a c
+lent_trans {n} {a} {b} {c} p q = record { n = q.n ∙ p.n; same = q.same ∙ p.same; bytes = past_trans n a.bytes.now b.bytes.now c.bytes.now p.bytes q.bytes }
 
-pub kept_trans : (m m' m'' : Memory) (a b c : Marks) → Kept m m' a b → Kept m' m'' b c → Kept m m'' a c
-kept_trans m m' m'' a b c p q =
+pub kept_trans : {m m' m'' : Memory} {a b c : Marks} → Kept m m' a b → Kept m' m'' b c → Kept m m'' a c
+kept_trans {m} {m'} {m''} {a} {b} {c} p q =
     record {
       n = q.n ∙ p.n;
       k = q.k ∙ p.k;
       table = q.table ∙ p.table;
       records = past_trans m.n m.records.now m'.records.now m''.records.now p.records (subst (λ (n : ℕ). SameFrom n m'.records.now m''.records.now) p.n q.records);
-      lent = lent_trans m.n a b c p.lent (subst (λ (n : ℕ). StillLent n b c) p.n q.lent);
+      lent = lent_trans p.lent (subst (λ (n : ℕ). StillLent n b c) p.n q.lent);
     }
 
-pub ready_kept : (m m' : Memory) (a b : Marks) → Kept m m' a b → Ready m → Ready m'
-ready_kept m m' a b p r =
+pub ready_kept : {m m' : Memory} {a b : Marks} → Kept m m' a b → Ready m → Ready m'
+ready_kept {m} {m'} p r =
     record {
       sound = subst (λ (n : ℕ). Sound n m'.k m'.table.now) (sym p.n)
           (subst (λ (k : ℕ). Sound m.n k m'.table.now) (sym p.k) (subst (λ (t : List ℕ). Sound m.n m.k t) (sym p.table) r.sound));
@@ -46,31 +46,31 @@ ready_kept m m' a b p r =
     }
 
 -- marks for each space, some steps on
-pub marked_kept : (m m' : Memory) (a b : Marks) → Kept m m' a b → MarksOf m.n a → MarksOf m'.n b
-marked_kept m m' a b p h = (omega (arith, p.n, h.0, p.lent.n), omega (arith, p.n, p.lent.bytes.len, h.1))
+pub marked_kept : {m m' : Memory} {a b : Marks} → Kept m m' a b → MarksOf m.n a → MarksOf m'.n b
+marked_kept p h = (omega (arith, p.n, h.0, p.lent.n), omega (arith, p.n, p.lent.bytes.len, h.1))
 
 pub rows_same : (m m' : Memory) → m'.k ≡ m.k → m'.table.now ≡ m.table.now → rows_of m' ≡ rows_of m
 rows_same m m' ek et = ap (λ (k : ℕ). table_rows k m'.table.now) ek ∙ ap (table_rows m.k) et
 
-pub rows_kept : (m m' : Memory) (a b : Marks) → Kept m m' a b → rows_of m' ≡ rows_of m
-rows_kept m m' a b p = rows_same m m' p.k p.table
+pub rows_kept : {m m' : Memory} {a b : Marks} → Kept m m' a b → rows_of m' ≡ rows_of m
+rows_kept {m} {m'} p = rows_same m m' p.k p.table
 
 -- a search leaves the links, and the shape
-pub keeps_kept : (m m' : Memory) (a b : Marks) → Kept m m' a b → (links : List Link) → Keeps m links → Keeps m' links
-keeps_kept m m' a b p links h =
-    keeps_at m' m.n m.k links p.n p.k (subst (λ (w : Rows). Oriented (λ _. m.k) m.n w links) (sym (rows_kept m m' a b p)) h)
+pub keeps_kept : {m m' : Memory} {a b : Marks} → Kept m m' a b → (links : List Link) → Keeps m links → Keeps m' links
+keeps_kept {m} {m'} p links h =
+    keeps_at m' m.n m.k links p.n p.k (subst (λ (w : Rows). Oriented (λ _. m.k) m.n w links) (sym (rows_kept p)) h)
 
-pub stuck_kept : (m m' : Memory) (x y : Marks) → Kept m m' x y → (a b : ℕ) → Stuck m' y a b → Stuck m y a b
-stuck_kept m m' x y p a b s =
-    let e : rows_of m' ≡ rows_of m = rows_kept m m' x y p in
+pub stuck_kept : {m m' : Memory} {x y : Marks} → Kept m m' x y → (a b : ℕ) → Stuck m' y a b → Stuck m y a b
+stuck_kept {m} {m'} {x} {y} p a b s =
+    let e : rows_of m' ≡ rows_of m = rows_kept p in
     record {
       reached = λ z. subst (λ (n : ℕ). Decides (among n y.bytes.now z) (Reach (rows_of m) a b z)) p.n
           (subst (λ (w : Rows). Decides (among m'.n y.bytes.now z) (Reach w a b z)) e (s.reached z));
       full = λ z h. ap (λ (w : Rows). length (w z)) (sym e) ∙ s.full z (subst (λ (w : Rows). Reach w a b z) (sym e) h) ∙ p.k;
     }
 
-pub shape_searched : (m m' : Memory) (a b : Marks) → Kept m m' a b → Ready m' → SameShape m m'
-shape_searched m m' a b p r =
+pub shape_searched : {m m' : Memory} {a b : Marks} → Kept m m' a b → Ready m' → SameShape m m'
+shape_searched {m} p r =
     record {
       n = p.n;
       k = p.k;
@@ -79,8 +79,8 @@ shape_searched m m' a b p r =
       past = subst (λ (t : List ℕ). SameFrom (m.n * m.k) m.table.now t) (sym p.table) (past_same (m.n * m.k) m.table.now);
     }
 
-pub shape_kept : (m m' m'' : Memory) (a b : Marks) → Kept m m' a b → SameShape m' m'' → SameShape m m''
-shape_kept m m' m'' a b p q =
+pub shape_kept : {m m' m'' : Memory} {a b : Marks} → Kept m m' a b → SameShape m' m'' → SameShape m m''
+shape_kept {m} {m'} {m''} p q =
     record {
       n = q.n ∙ p.n;
       k = q.k ∙ p.k;
@@ -90,13 +90,13 @@ shape_kept m m' m'' a b p q =
     }
 
 pub went_on_trans
-    : (m m' m'' : Memory) (a b c : Marks) (t t' t'' : ℕ) → Kept m m' a b → WentOn m m' a b t t' → WentOn m' m'' b c t' t'' → WentOn m m'' a c t t''
-went_on_trans m m' m'' a b c t t' t'' p g h =
+    : {m m' m'' : Memory} {a b c : Marks} {t t' t'' : ℕ} → Kept m m' a b → Kept m' m'' b c → WentOn m m' a b t t' → WentOn m' m'' b c t' t'' → WentOn m m'' a c t t''
+went_on_trans {m} {m'} {m''} {a} {b} {c} {t} {t'} {t''} p _ g h =
     grown_trans (among m.n a.bytes.now) (among m.n b.bytes.now) (among m.n c.bytes.now) (queue_of m) (queue_of m') (queue_of m'') t t' t'' g
     (subst (λ (n : ℕ). Grown (among n b.bytes.now) (among n c.bytes.now) (queue_of m') (queue_of m'') t' t'') p.n h)
 
 -- the cell at place j of a row v that was found, some steps on
-module _ (m m' : Memory) (a b : Marks) (kept : Kept m m' a b) (r : Ready m) (v j : ℕ) (j_in : j < m.k) (found : among m.n a.bytes.now v ≡ true) where
+module _ {m m' : Memory} {a b : Marks} (kept : Kept m m' a b) (r : Ready m) (v j : ℕ) (j_in : j < m.k) (found : among m.n a.bytes.now v ≡ true) where
   abbrev c : ℕ
   c = get_or m'.table.now (v * m.k + j) 0
 
@@ -133,7 +133,7 @@ module _ (m m' : Memory) (a b : Marks) (kept : Kept m m' a b) (r : Ready m) (v j
     pub cell_why : (t t' : ℕ) → WentOn m m' a b t t' → (among m'.n b.bytes.now v ≡ true) × ContainsAt (rows_of m' v) c
     cell_why t t' on = (
       ap (λ (n : ℕ). among n b.bytes.now v) kept.n ∙ on.kept v found,
-      subst (λ (w : Rows). ContainsAt (w v) c) (sym (rows_kept m m' a b kept)) ((row_has m.k m.table.now v c row_long some).0 j j_in (sym same_cell)),
+      subst (λ (w : Rows). ContainsAt (w v) c) (sym (rows_kept kept)) ((row_has m.k m.table.now v c row_long some).0 j j_in (sym same_cell)),
     )
 
     -- the set at the first n, at the cell as it was
@@ -142,8 +142,8 @@ module _ (m m' : Memory) (a b : Marks) (kept : Kept m m' a b) (r : Ready m) (v j
 
 -- what was read stays found
 pub read_on
-    : (m m' m'' : Memory) (a b c : Marks) (v j t t' : ℕ) → Kept m m' a b → WentOn m' m'' b c t t' → ReadTo m b v j → ReadTo m c v j
-read_on m m' m'' a b c v j t t' p g h i l =
+    : {m m' m'' : Memory} {a b c : Marks} (v j : ℕ) {t t' : ℕ} → Kept m m' a b → Kept m' m'' b c → WentOn m' m'' b c t t' → ReadTo m b v j → ReadTo m c v j
+read_on {m} {m'} {m''} {a} {b} {c} v j p _ g h i l =
     ((h i l).0, subst (λ (n : ℕ). among n b.bytes.now (cell m.k m.table.now v i) ≡ true → among n c.bytes.now (cell m.k m.table.now v i) ≡ true) p.n (g.kept (cell m.k m.table.now v i)) (h i l).1)
 
 -- what the record at place i has as the i-th found
@@ -152,7 +152,7 @@ queue_at m i l = get_or-map (λ (r : SpaceRecord). r.queue) m.records.now i (rec
 
 -- one space more is gone through
 module _
-    (m m' : Memory) (a b : Marks) (kept : Kept m m' a b) (r : Ready m) (head v t t' : ℕ) (head_in : head < t) (here : queue_of m head ≡ v)
+    {m m' : Memory} {a b : Marks} (kept : Kept m m' a b) (r : Ready m) (head v t t' : ℕ) (head_in : head < t) (here : queue_of m head ≡ v)
     (v_in : v < m.n) (on : WentOn m m' a b t t') (all : ReadTo m b v m.k) (old : SpreadOut m a head) where
   row' : v * m.k + m.k ≤ length m.table.now
   row' = row_in m.n m.k (length m.table.now) v r.sound.long v_in
@@ -173,16 +173,16 @@ module _
   pub spread_more : SpreadOut m' b (head + 1)
   spread_more =
       subst (λ (n : ℕ). Spread m'.k (rows_of m') (among n b.bytes.now) (queue_of m') (head + 1)) (sym kept.n)
-      (subst (λ (w : Rows). Spread m'.k w (among m.n b.bytes.now) (queue_of m') (head + 1)) (sym (rows_kept m m' a b kept))
+      (subst (λ (w : Rows). Spread m'.k w (among m.n b.bytes.now) (queue_of m') (head + 1)) (sym (rows_kept kept))
       (subst (λ (k : ℕ). Spread k (rows_of m) (among m.n b.bytes.now) (queue_of m') (head + 1)) (sym kept.k) spread'))
 
 -- the space v at `head` of the queue, some steps on
-module _ (m₀ m : Memory) (a₀ a : Marks) (kept : Kept m₀ m a₀ a) (r : Ready m₀) (tail : ℕ) (s : Searching m a tail) where
+module _ {m₀ m : Memory} {a₀ a : Marks} (kept : Kept m₀ m a₀ a) (r : Ready m₀) (tail : ℕ) (s : Searching m a tail) where
   pub tail_small : tail ≤ m₀.n
   tail_small = omega (arith, tail_le m.n (rows_of m) (among m.n a.bytes.now) (queue_of m) (parent_of m) (turn_of m) tail s, kept.n)
 
   pub tail_room : tail ≤ length m.records.now
-  tail_room = omega (arith, tail_small, (ready_kept m₀ m a₀ a kept r).room, kept.n)
+  tail_room = omega (arith, tail_small, (ready_kept kept r).room, kept.n)
 
   module _ (head v : ℕ) (lt : head < tail) (is : v ≡ queued m head) where
     pub head_here : queue_of m head ≡ v
@@ -196,7 +196,7 @@ module _ (m₀ m : Memory) (a₀ a : Marks) (kept : Kept m₀ m a₀ a) (r : Rea
 
 -- a space that was found and has a free cell, some steps on
 pub found_free
-    : (m m' : Memory) (a b : Marks) → Kept m m' a b → (v t t' : ℕ) → WentOn m m' a b t t' → among m.n a.bytes.now v ≡ true → length (rows_of m v) < m.k
+    : {m m' : Memory} {a b : Marks} → Kept m m' a b → (v t t' : ℕ) → WentOn m m' a b t t' → among m.n a.bytes.now v ≡ true → length (rows_of m v) < m.k
     → (among m'.n b.bytes.now v ≡ true) × (length (rows_of m' v) < m'.k)
-found_free m m' a b p v t t' g e free =
-    (ap (λ (n : ℕ). among n b.bytes.now v) p.n ∙ g.kept v e, omega (arith, ap (λ (w : Rows). length (w v)) (rows_kept m m' a b p), p.k))
+found_free {m} {m'} {a} {b} p v t t' g e free =
+    (ap (λ (n : ℕ). among n b.bytes.now v) p.n ∙ g.kept v e, omega (arith, ap (λ (w : Rows). length (w v)) (rows_kept p), p.k))

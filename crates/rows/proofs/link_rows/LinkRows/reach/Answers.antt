@@ -19,11 +19,9 @@ note-requires c =
 
 pub returns : goal.returns
 returns c =
-    let m₀ = c.args.self.now.memory in
     let m₁ = c.note.new.self.memory in
     let m₂ = c.note-2.new.self.memory in
     let m = c.spread.new.self.memory in
-    let x₀ = c.args.marks.now in
     let x₁ = c.note.new.marks in
     let x₂ = c.note-2.new.marks in
     let x = c.spread.new.marks in
@@ -37,6 +35,6 @@ returns c =
     let q₀' : queue_of m₂ 0 ≡ c.args.a = c.note-2.ensures.grown.order 0 (omega arith) ∙ q₀ in
     let q₁' : queue_of m₂ 1 ≡ c.args.b = two_first m₂.n (rows_of m₂) (among m₂.n x₂.bytes.now) (queue_of m₂) (parent_of m₂) (turn_of m₂) c.args.a c.args.b c.note-2.ensures.searching q₀' here₂ c.requires.ends.2 in
     record {
-      kept = kept_trans m₀ m₁ m x₀ x₁ x k₁ (kept_trans m₁ m₂ m x₁ x₂ x k₂ k);
+      kept = kept_trans k₁ (kept_trans k₂ k);
       answer = answered m x e.tail c.args.a c.args.b e.searching e.grown.more (e.grown.order 0 (omega arith) ∙ q₀') (e.grown.order 1 (omega arith) ∙ q₁') c.spread.result e.answer;
     }

@@ -6,20 +6,16 @@ use Rattle.rows.proofs.link_rows.LinkRows.spread.Goals as goal
 pub next_found-requires : goal.next_found-requires
 next_found-requires c =
     let i = c.loop-v.invariant in
-    tail_room c.args.self.now.memory c.loop-v.self.memory c.args.marks.now c.loop-v.marks i.0 (ready_of c.args.self.now) c.loop-v.tail i.1
+    tail_room i.0 (ready_of c.args.self.now) c.loop-v.tail i.1
 
 pub visit_row-requires : goal.visit_row-requires
 visit_row-requires c =
     let i = c.loop-v.invariant in
     let h = c.in-Some.ensures in
-    let m₀ = c.args.self.now.memory in
-    let m = c.loop-v.self.memory in
-    let a₀ = c.args.marks.now in
-    let a = c.loop-v.marks in
     record {
-      marked = marked_kept m₀ m a₀ a i.0 c.requires.marked;
+      marked = marked_kept i.0 c.requires.marked;
       searching = i.1;
-      found = head_found m₀ m a₀ a i.0 (ready_of c.args.self.now) c.loop-v.tail i.1 c.loop-v.head c.in-Some.v h.0 h.1;
+      found = head_found i.0 (ready_of c.args.self.now) c.loop-v.tail i.1 c.loop-v.head c.in-Some.v h.0 h.1;
     }
 
 pub returns-in-None : goal.returns-in-None
@@ -27,47 +23,35 @@ returns-in-None c =
     let i = c.loop-v.invariant in
     let h = c.in-Some.ensures in
     let e = c.in-None.ensures in
-    let m₀ = c.args.self.now.memory in
-    let m = c.loop-v.self.memory in
-    let m' = c.visit_row.new.self.memory in
-    let a₀ = c.args.marks.now in
-    let a = c.loop-v.marks in
-    let b = c.visit_row.new.marks in
     record {
-      kept = kept_trans m₀ m m' a₀ a b i.0 e.kept;
+      kept = kept_trans i.0 e.kept;
       ended = record {
         tail = e.visited.found;
         searching = e.visited.searching;
-        grown = went_on_trans m₀ m m' a₀ a b 2 c.loop-v.tail e.visited.found i.0 i.2 e.visited.grown;
-        answer = found_free m m' a b e.kept c.in-Some.v c.loop-v.tail e.visited.found e.visited.grown
-            (head_found m₀ m a₀ a i.0 (ready_of c.args.self.now) c.loop-v.tail i.1 c.loop-v.head c.in-Some.v h.0 h.1) e.visited.answer;
+        grown = went_on_trans i.0 e.kept i.2 e.visited.grown;
+        answer = found_free e.kept c.in-Some.v c.loop-v.tail e.visited.found e.visited.grown
+            (head_found i.0 (ready_of c.args.self.now) c.loop-v.tail i.1 c.loop-v.head c.in-Some.v h.0 h.1) e.visited.answer;
       };
     }
 
 pub loop-v-smaller : goal.loop-v-smaller
 loop-v-smaller c =
     let i = c.loop-v.invariant in
-    omega (arith, tail_small c.args.self.now.memory c.loop-v.self.memory c.args.marks.now c.loop-v.marks i.0 (ready_of c.args.self.now) c.loop-v.tail i.1, c.in-Some.ensures.0)
+    omega (arith, tail_small i.0 (ready_of c.args.self.now) c.loop-v.tail i.1, c.in-Some.ensures.0)
 
 pub loop-v-preserved : goal.loop-v-preserved
 loop-v-preserved c =
     let i = c.loop-v.invariant in
     let h = c.in-Some.ensures in
     let e = c.in-Some-visit_row.ensures in
-    let m₀ = c.args.self.now.memory in
-    let m = c.loop-v.self.memory in
-    let m' = c.visit_row.new.self.memory in
-    let a₀ = c.args.marks.now in
-    let a = c.loop-v.marks in
-    let b = c.visit_row.new.marks in
     let same : c.in-Some-visit_row.found ≡ e.visited.found = e.visited.answer.0 in
     rw same (
-      kept_trans m₀ m m' a₀ a b i.0 e.kept,
+      kept_trans i.0 e.kept,
       e.visited.searching,
-      went_on_trans m₀ m m' a₀ a b 2 c.loop-v.tail e.visited.found i.0 i.2 e.visited.grown,
-      spread_more m m' a b e.kept (ready_of c.loop-v.self) c.loop-v.head c.in-Some.v c.loop-v.tail e.visited.found h.0
-          (head_here m₀ m a₀ a i.0 (ready_of c.args.self.now) c.loop-v.tail i.1 c.loop-v.head c.in-Some.v h.0 h.1)
-          (head_space m₀ m a₀ a i.0 (ready_of c.args.self.now) c.loop-v.tail i.1 c.loop-v.head c.in-Some.v h.0 h.1)
+      went_on_trans i.0 e.kept i.2 e.visited.grown,
+      spread_more e.kept (ready_of c.loop-v.self) c.loop-v.head c.in-Some.v c.loop-v.tail e.visited.found h.0
+          (head_here i.0 (ready_of c.args.self.now) c.loop-v.tail i.1 c.loop-v.head c.in-Some.v h.0 h.1)
+          (head_space i.0 (ready_of c.args.self.now) c.loop-v.tail i.1 c.loop-v.head c.in-Some.v h.0 h.1)
           e.visited.grown e.visited.answer.1 i.3,
       omega (arith, e.visited.grown.more, h.0),
     )

@@ -10,7 +10,7 @@ use Rattle.rows.proofs.link_rows.LinkRows.visit_row.Goals.{then-not-is_marked, e
 pub bounds-self-from : goal.bounds-self-from
 bounds-self-from c =
     let i = c.loop-j.invariant in
-    cell_at c.args.self.now.memory c.loop-j.self.memory c.args.marks.now c.loop-j.marks i.0 (ready_of c.args.self.now) c.args.v c.loop-j.j (omega arith) c.requires.found
+    cell_at i.0 (ready_of c.args.self.now) c.args.v c.loop-j.j (omega arith) c.requires.found
 
 pub returns-then-c : goal.returns-then-c
 returns-then-c c =
@@ -21,24 +21,20 @@ returns-then-c c =
         found = c.loop-j.tail;
         searching = i.1;
         grown = i.2;
-        answer = cell_free c.args.self.now.memory c.loop-j.self.memory c.args.marks.now c.loop-j.marks i.0 (ready_of c.args.self.now) c.args.v c.loop-j.j c.loop-j-test.true c.requires.found c.if-c.true;
+        answer = cell_free i.0 (ready_of c.args.self.now) c.args.v c.loop-j.j c.loop-j-test.true c.requires.found c.if-c.true;
       };
     }
 
 pub note-requires : goal.note-requires
 note-requires c =
     let i = c.loop-j.invariant in
-    let m = c.args.self.now.memory in
-    let m' = c.loop-j.self.memory in
-    let a = c.args.marks.now in
-    let b = c.loop-j.marks in
-    let marked = marked_kept m m' a b i.0 c.requires.marked in
+    let marked = marked_kept i.0 c.requires.marked in
     record {
       marked = marked;
       searching = i.1;
-      inside = cell_in m m' a b i.0 (ready_of c.args.self.now) c.args.v c.loop-j.j c.loop-j-test.true c.requires.found c.if-c.false;
-      fresh = cell_seen m m' a b i.0 (ready_of c.args.self.now) c.args.v c.loop-j.j c.loop-j-test.true c.requires.found c.loop-j.marks.n c.is_marked.result marked.0 c.is_marked.ensures ∙ c.if-not-is_marked.true;
-      why = inr (cell_why m m' a b i.0 (ready_of c.args.self.now) c.args.v c.loop-j.j c.loop-j-test.true c.requires.found c.if-c.false c.args.tail c.loop-j.tail i.2);
+      inside = cell_in i.0 (ready_of c.args.self.now) c.args.v c.loop-j.j c.loop-j-test.true c.requires.found c.if-c.false;
+      fresh = cell_seen i.0 (ready_of c.args.self.now) c.args.v c.loop-j.j c.loop-j-test.true c.requires.found c.loop-j.marks.n c.is_marked.result marked.0 c.is_marked.ensures ∙ c.if-not-is_marked.true;
+      why = inr (cell_why i.0 (ready_of c.args.self.now) c.args.v c.loop-j.j c.loop-j-test.true c.requires.found c.if-c.false c.args.tail c.loop-j.tail i.2);
     }
 
 pub overflow_add-tail : goal.overflow_add-tail
@@ -49,21 +45,16 @@ overflow_add-tail c =
 pub loop-j-preserved : goal.loop-j-preserved
 loop-j-preserved c =
     let i = c.loop-j.invariant in
-    let m = c.args.self.now.memory in
-    let m' = c.loop-j.self.memory in
-    let a = c.args.marks.now in
-    let b = c.loop-j.marks in
-    let marked = marked_kept m m' a b i.0 c.requires.marked in
+    let marked = marked_kept i.0 c.requires.marked in
     elim c.if-not-is_marked.branch [
       | then-not-is_marked w ↦
           let e = w.note.ensures in
-          let x = w.note.new.marks in
           rw (w.self-is, w.marks-is, w.tail-is) (
-            kept_trans m m' w.note.new.self.memory a b x i.0 e.kept,
+            kept_trans i.0 e.kept,
             e.searching,
-            went_on_trans m m' w.note.new.self.memory a b x c.args.tail c.loop-j.tail _ i.0 i.2 e.grown,
-            below_more _ _ (read_on m m' w.note.new.self.memory a b x c.args.v c.loop-j.j c.loop-j.tail _ i.0 e.grown i.3)
-                (cell_then m m' a b i.0 (ready_of c.args.self.now) c.args.v c.loop-j.j c.loop-j-test.true c.requires.found c.if-c.false x e.here),
+            went_on_trans i.0 e.kept i.2 e.grown,
+            below_more _ _ (read_on c.args.v c.loop-j.j i.0 e.kept e.grown i.3)
+                (cell_then i.0 (ready_of c.args.self.now) c.args.v c.loop-j.j c.loop-j-test.true c.requires.found c.if-c.false w.note.new.marks e.here),
           )
       | else-not-is_marked w ↦
           rw (w.self-is, w.marks-is, w.tail-is) (
@@ -71,8 +62,8 @@ loop-j-preserved c =
             i.1,
             i.2,
             below_more _ _ i.3
-                (cell_then m m' a b i.0 (ready_of c.args.self.now) c.args.v c.loop-j.j c.loop-j-test.true c.requires.found c.if-c.false b
-                (cell_seen m m' a b i.0 (ready_of c.args.self.now) c.args.v c.loop-j.j c.loop-j-test.true c.requires.found c.loop-j.marks.n c.is_marked.result marked.0 c.is_marked.ensures ∙ w.if-not-is_marked.false)),
+                (cell_then i.0 (ready_of c.args.self.now) c.args.v c.loop-j.j c.loop-j-test.true c.requires.found c.if-c.false c.loop-j.marks
+                (cell_seen i.0 (ready_of c.args.self.now) c.args.v c.loop-j.j c.loop-j-test.true c.requires.found c.loop-j.marks.n c.is_marked.result marked.0 c.is_marked.ensures ∙ w.if-not-is_marked.false)),
           )
     ]
 
