@@ -29,8 +29,8 @@ pub answered
     → MatchOption r (Stuck m marks a b) (λ w. Trail m (among m.n marks.bytes.now) a b w)
 answered m marks tail a b s two q₀ q₁ None h =
     record {
-      reached = settles m.n (rows_of m) (among m.n marks.bytes.now) (queue_of m) (parent_of m) (turn_of m) tail a b s q₀ q₁ m.k two h;
-      full = all_full m.n (rows_of m) (among m.n marks.bytes.now) (queue_of m) (parent_of m) (turn_of m) tail a b s q₀ q₁ m.k two h;
+      reached = settles m.n (rows_of m) (among m.n marks.bytes.now) (queue_of m) (parent_of m) (turn_of m) tail a b s.search q₀ q₁ m.k two h;
+      full = all_full m.n (rows_of m) (among m.n marks.bytes.now) (queue_of m) (parent_of m) (turn_of m) tail a b s.search q₀ q₁ m.k two h;
     }
 answered m marks tail a b s two q₀ q₁ (Some w) h =
-    λ links o. turning m.n (rows_of m) (among m.n marks.bytes.now) (queue_of m) (parent_of m) (turn_of m) tail a b s q₀ q₁ (λ _. m.k) links o w h.0 h.1
+    λ links o. turning m.n (rows_of m) (among m.n marks.bytes.now) (queue_of m) (parent_of m) (turn_of m) tail a b s.search q₀ q₁ (λ _. m.k) links o w h.0 h.1

@@ -1,7 +1,8 @@
 -- Memory that is in order, by the parts that a ghost field states.
-use Rattle.std.proofs.Common.{◌≡◌, ◌≢◌, ℕ, ◌*◌, ◌<◌, ◌≤◌, List, length, sym, ◌∙◌, subst, arith}
+use Rattle.std.proofs.Common.{◌≡◌, ◌≢◌, ℕ, ◌*◌, ◌<◌, ◌≤◌, List, length, sym, ap, ◌∙◌, subst, arith}
 use Rattle.maps.specs.Links.{Link}
 use Rattle.crowding.specs.Orientation.{Oriented}
+use Rattle.crowding.specs.Table.{table_rows}
 use Rattle.rows.specs.Keeping.{Keeps, SameShape}
 use Rattle.rows.specs.Past.{SameFrom}
 use Rattle.rows.specs.Sound.{cell, Sound}
@@ -80,3 +81,6 @@ shape_by m m' r p =
 pub keeps_at : (m : Memory) (n k : ℕ) (links : List Link) → m.n ≡ n → m.k ≡ k → Oriented (λ _. k) n (rows_of m) links → Keeps m links
 keeps_at m n k links en ek o =
     subst (λ (x : ℕ). Oriented (λ _. m.k) x (rows_of m) links) (sym en) (subst (λ (x : ℕ). Oriented (λ _. x) n (rows_of m) links) (sym ek) o)
+
+pub rows_same : (m m' : Memory) → m'.k ≡ m.k → m'.table.now ≡ m.table.now → rows_of m' ≡ rows_of m
+rows_same m m' ek et = ap (λ (k : ℕ). table_rows k m'.table.now) ek ∙ ap (table_rows m.k) et

@@ -12,11 +12,10 @@ use Rattle.rows.specs.Keeping.{Tells}
 use Rattle.rows.specs.Steps.{SameBesideCells}
 use Rattle.rows.specs.View.{Ready, rows_of}
 use Rattle.rows.specs.declared.memory.Memory.{Memory}
-use Rattle.rows.proofs.Ghosts.{keeps_at, rest_trans, shape_by}
+use Rattle.rows.proofs.Ghosts.{keeps_at, rows_same, rest_trans, shape_by}
 use Rattle.rows.proofs.Kept.{not_kept, kept_first, kept_second, put_here, outside_not_kept}
 use Rattle.rows.proofs.Laid.{swapped}
 use Rattle.rows.proofs.Readings.{reading_tells}
-use Rattle.rows.proofs.Visiting.{rows_same}
 
 module _ (m m' : Memory) (r' : Ready m') (a b : ℕ) (inside : InsideEnds m a b) (rest : SameBesideCells m m') where
   pub lifted_first : Put m.n a b (rows_of m') (rows_of m) → LiftAnswer m m' a b true

@@ -11,7 +11,7 @@ use Rattle.crowding.specs.Reach.{Reach}
 use Rattle.crowding.specs.Table.{table_rows}
 use Rattle.crowding.proofs.Tables.{row_full, row_has}
 use Rattle.rows.specs.Keeping.{Keeps, SameShape}
-use Rattle.rows.specs.Lent.{MarksOf, StillLent}
+use Rattle.rows.specs.Lent.{StillLent}
 use Rattle.rows.specs.Past.{SameFrom}
 use Rattle.rows.specs.Search.{among, Grown, Spread}
 use Rattle.rows.specs.Sound.{cell, Sound}
@@ -21,7 +21,7 @@ use Rattle.rows.specs.declared.memory.Memory.{Memory}
 use Rattle.rows.specs.declared.memory.SpaceRecord.{SpaceRecord}
 use Rattle.rows.proofs.Changes.{past_same, past_trans, past_at}
 use Rattle.rows.proofs.Finding.{grown_trans, among_in, spread_grown, tail_le}
-use Rattle.rows.proofs.Ghosts.{keeps_at}
+use Rattle.rows.proofs.Ghosts.{keeps_at, rows_same}
 use Rattle.rows.proofs.Table.{row_in, row_cell}
 
 pub lent_trans : {n : ℕ} {a b c : Marks} → StillLent n a b → StillLent n b c → StillLent n a c
@@ -44,13 +44,6 @@ ready_kept {m} {m'} p r =
           (subst (λ (k : ℕ). Sound m.n k m'.table.now) (sym p.k) (subst (λ (t : List ℕ). Sound m.n m.k t) (sym p.table) r.sound));
       room = omega (arith, p.n, p.records.len, r.room);
     }
-
--- marks for each space, some steps on
-pub marked_kept : {m m' : Memory} {a b : Marks} → Kept m m' a b → MarksOf m.n a → MarksOf m'.n b
-marked_kept p h = (omega (arith, p.n, h.0, p.lent.n), omega (arith, p.n, p.lent.bytes.len, h.1))
-
-pub rows_same : (m m' : Memory) → m'.k ≡ m.k → m'.table.now ≡ m.table.now → rows_of m' ≡ rows_of m
-rows_same m m' ek et = ap (λ (k : ℕ). table_rows k m'.table.now) ek ∙ ap (table_rows m.k) et
 
 pub rows_kept : {m m' : Memory} {a b : Marks} → Kept m m' a b → rows_of m' ≡ rows_of m
 rows_kept {m} {m'} p = rows_same m m' p.k p.table
@@ -179,7 +172,7 @@ module _
 -- the space v at `head` of the queue, some steps on
 module _ {m₀ m : Memory} {a₀ a : Marks} (kept : Kept m₀ m a₀ a) (r : Ready m₀) (tail : ℕ) (s : Searching m a tail) where
   pub tail_small : tail ≤ m₀.n
-  tail_small = omega (arith, tail_le m.n (rows_of m) (among m.n a.bytes.now) (queue_of m) (parent_of m) (turn_of m) tail s, kept.n)
+  tail_small = omega (arith, tail_le m.n (rows_of m) (among m.n a.bytes.now) (queue_of m) (parent_of m) (turn_of m) tail s.search, kept.n)
 
   pub tail_room : tail ≤ length m.records.now
   tail_room = omega (arith, tail_small, (ready_kept kept r).room, kept.n)
@@ -189,7 +182,7 @@ module _ {m₀ m : Memory} {a₀ a : Marks} (kept : Kept m₀ m a₀ a) (r : Rea
     head_here = queue_at m head (omega (arith, tail_room)) ∙ sym is
 
     pub head_found : among m.n a.bytes.now v ≡ true
-    head_found = subst (λ (y : ℕ). among m.n a.bytes.now y ≡ true) head_here (s.listed head lt).0
+    head_found = subst (λ (y : ℕ). among m.n a.bytes.now y ≡ true) head_here (s.search.listed head lt).0
 
     pub head_space : v < m.n
     head_space = among_in m.n a.bytes.now v head_found

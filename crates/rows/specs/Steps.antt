@@ -1,5 +1,5 @@
 -- What the steps of a search, and of turning links back, keep of the lent memory. Assumes nothing.
-use Rattle.std.specs.Prelude.{◌≡◌, ℕ, ◌*◌, ◌<◌, true, List, length, Decides, Option, MatchOption, ◌≢◌}
+use Rattle.std.specs.Prelude.{◌≡◌, ℕ, ◌*◌, ◌<◌, true, List, length, Decides, Option, MatchOption, ◌≢◌, slice_set}
 use Rattle.maps.specs.Links.{Link}
 use Rattle.maps.specs.Sets.{Spaces}
 use Rattle.maps.specs.declared.marks.Marks.{Marks}
@@ -7,11 +7,11 @@ use Rattle.crowding.specs.Orientation.{Oriented}
 use Rattle.crowding.specs.Reach.{Reach}
 use Rattle.crowding.specs.Turning.{Turning}
 use Rattle.rows.specs.Keeping.{Keeps}
-use Rattle.rows.specs.Lent.{StillLent}
+use Rattle.rows.specs.Lent.{MarksOf, StillLent}
 use Rattle.rows.specs.Past.{SameFrom}
 use Rattle.rows.specs.Search.{among, Search, Grown, Spread}
 use Rattle.rows.specs.Sound.{cell}
-use Rattle.rows.specs.View.{rows_of, queue_of, parent_of, turn_of}
+use Rattle.rows.specs.View.{queues, parents, turns, rows_of, queue_of, parent_of, turn_of}
 use Rattle.rows.specs.declared.memory.Memory.{Memory}
 
 -- only cells of the n rows may have changed
@@ -26,8 +26,19 @@ abbrev pub seen : Memory → Marks → Spaces
 seen m marks = among m.n marks.bytes.now
 
 -- a search has found `tail` spaces, which the marks have
-abbrev pub Searching : Memory → Marks → ℕ → Type 0
-Searching m marks tail = Search m.n (rows_of m) (seen m marks) (queue_of m) (parent_of m) (turn_of m) tail
+pub record Searching (m : Memory) (marks : Marks) (tail : ℕ) : Type 0 where
+  pub marked : MarksOf m.n marks
+  pub search : Search m.n (rows_of m) (seen m marks) (queue_of m) (parent_of m) (turn_of m) tail
+
+-- x, found from p, is noted as the i-th
+pub record Noted (m m' : Memory) (i x p : ℕ) : Type 0 where
+  pub n : m'.n ≡ m.n
+  pub k : m'.k ≡ m.k
+  pub table : m'.table.now ≡ m.table.now
+  pub queue : queues m'.records.now ≡ slice_set (queues m.records.now) i x
+  pub parent : parents m'.records.now ≡ slice_set (parents m.records.now) x p
+  pub turn : turns m'.records.now ≡ slice_set (turns m.records.now) x i
+  pub past : (n : ℕ) → i < n → x < n → SameFrom n m.records.now m'.records.now
 
 -- a search changes the first n space records alone, and the first n marks
 pub record Kept (m m' : Memory) (marks marks' : Marks) : Type 0 where

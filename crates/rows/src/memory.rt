@@ -3,6 +3,7 @@ ghost use Rattle.std.specs.Prelude.{◌≡◌, ℕ, ◌*◌, ◌<◌, ◌≤◌,
 ghost use Rattle.rows.specs.Calls.{enough};
 ghost use Rattle.rows.specs.Keeping.{Keeps};
 ghost use Rattle.rows.specs.Past.{SameFrom};
+ghost use Rattle.rows.specs.Steps.{Noted};
 ghost use Rattle.rows.specs.View.{Ready, parents, queues, turns};
 
 use maps::reading::EMPTY;
@@ -97,13 +98,7 @@ impl Memory<'_> {
     pub(crate) fn note_found(&mut self, i: usize, x: u16, parent: u16)
         requires room { (i < length self.old.records.now) × (x < length self.old.records.now) }
         requires small { i < 65536 }
-        ensures queues { queues self.new.records.now ≡ slice_set (queues self.old.records.now) i x }
-        ensures parents { parents self.new.records.now ≡ slice_set (parents self.old.records.now) x parent }
-        ensures turns { turns self.new.records.now ≡ slice_set (turns self.old.records.now) x i }
-        ensures past { (n : ℕ) → i < n → x < n → SameFrom n self.old.records.now self.new.records.now }
-        ensures table { self.new.table.now ≡ self.old.table.now }
-        ensures n { self.new.n ≡ self.old.n }
-        ensures k { self.new.k ≡ self.old.k }
+        ensures { Noted self.old self.new i x parent }
     {
         set_queue(self.records, i, x);
         set_trail(self.records, x as usize, parent, i as u16);

@@ -14,7 +14,6 @@ use maps::reading::EMPTY;
 impl LinkRows<'_> {
     // Notes the space `x`, found from `parent`, as the next one.
     fn note(&mut self, marks: &mut Marks<'_>, x: u16, parent: u16, tail: usize)
-        requires marked { MarksOf self.old.memory.n marks.old }
         requires searching { Searching self.old.memory marks.old tail }
         requires inside { x < self.old.memory.n }
         requires fresh { seen self.old.memory marks.old x ≡ false }
@@ -30,7 +29,6 @@ impl LinkRows<'_> {
 
     // Notes what row `v` names and was not yet found, up to a free cell: how many are found then, or none if the row has a free cell.
     fn visit_row(&mut self, marks: &mut Marks<'_>, v: u16, tail: usize) -> Option<usize>
-        requires marked { MarksOf self.old.memory.n marks.old }
         requires searching { Searching self.old.memory marks.old tail }
         requires found { seen self.old.memory marks.old v ≡ true }
         ensures kept { Kept self.old.memory self.new.memory marks.old marks.new }
@@ -63,8 +61,7 @@ impl LinkRows<'_> {
 
     // Goes through the spaces found, beginning with the two that are noted, until one has a free cell.
     fn spread(&mut self, marks: &mut Marks<'_>) -> Option<u16>
-        requires marked { MarksOf self.old.memory.n marks.old }
-        requires searching { Searching self.old.memory marks.old 2 }
+        requires { Searching self.old.memory marks.old 2 }
         ensures kept { Kept self.old.memory self.new.memory marks.old marks.new }
         ensures ended { Ended self.old.memory self.new.memory marks.old marks.new result }
     {

@@ -10,8 +10,10 @@ pub note-requires : goal.note-requires
 note-requires c =
     let m = c.args.self.now.memory in
     record {
-      marked = c.requires.marked;
-      searching = search_none m.n (rows_of m) (among m.n c.args.marks.now.bytes.now) (queue_of m) (parent_of m) (turn_of m) c.requires.none;
+      searching = record {
+        marked = c.requires.marked;
+        search = search_none m.n (rows_of m) (among m.n c.args.marks.now.bytes.now) (queue_of m) (parent_of m) (turn_of m) c.requires.none;
+      };
       inside = c.requires.ends.0;
       fresh = c.requires.none c.args.a;
       why = inl (omega arith);
@@ -31,9 +33,9 @@ returns c =
     let e = c.spread.ensures.ended in
     let here₁ : among m₁.n x₁.bytes.now c.args.a ≡ true = ap (λ (n : ℕ). among n x₁.bytes.now c.args.a) k₁.n ∙ c.note.ensures.here in
     let here₂ : among m₂.n x₂.bytes.now c.args.b ≡ true = ap (λ (n : ℕ). among n x₂.bytes.now c.args.b) k₂.n ∙ c.note-2.ensures.here in
-    let q₀ : queue_of m₁ 0 ≡ c.args.a = one_first m₁.n (rows_of m₁) (among m₁.n x₁.bytes.now) (queue_of m₁) (parent_of m₁) (turn_of m₁) c.args.a c.args.b c.note.ensures.searching here₁ in
+    let q₀ : queue_of m₁ 0 ≡ c.args.a = one_first m₁.n (rows_of m₁) (among m₁.n x₁.bytes.now) (queue_of m₁) (parent_of m₁) (turn_of m₁) c.args.a c.args.b c.note.ensures.searching.search here₁ in
     let q₀' : queue_of m₂ 0 ≡ c.args.a = c.note-2.ensures.grown.order 0 (omega arith) ∙ q₀ in
-    let q₁' : queue_of m₂ 1 ≡ c.args.b = two_first m₂.n (rows_of m₂) (among m₂.n x₂.bytes.now) (queue_of m₂) (parent_of m₂) (turn_of m₂) c.args.a c.args.b c.note-2.ensures.searching q₀' here₂ c.requires.ends.2 in
+    let q₁' : queue_of m₂ 1 ≡ c.args.b = two_first m₂.n (rows_of m₂) (among m₂.n x₂.bytes.now) (queue_of m₂) (parent_of m₂) (turn_of m₂) c.args.a c.args.b c.note-2.ensures.searching.search q₀' here₂ c.requires.ends.2 in
     record {
       kept = kept_trans k₁ (kept_trans k₂ k);
       answer = answered m x e.tail c.args.a c.args.b e.searching e.grown.more (e.grown.order 0 (omega arith) ∙ q₀') (e.grown.order 1 (omega arith) ∙ q₁') c.spread.result e.answer;

@@ -1,6 +1,6 @@
 use Rattle.std.proofs.Common.{◌≡◌, arith}
 use Rattle.rows.proofs.Ghosts.{ready_of}
-use Rattle.rows.proofs.Visiting.{kept_trans, marked_kept, went_on_trans, spread_more, found_free, tail_small, tail_room, head_here, head_found, head_space}
+use Rattle.rows.proofs.Visiting.{kept_trans, went_on_trans, spread_more, found_free, tail_small, tail_room, head_here, head_found, head_space}
 use Rattle.rows.proofs.link_rows.LinkRows.spread.Goals as goal
 
 pub next_found-requires : goal.next_found-requires
@@ -13,7 +13,6 @@ visit_row-requires c =
     let i = c.loop-v.invariant in
     let h = c.in-Some.ensures in
     record {
-      marked = marked_kept i.0 c.requires.marked;
       searching = i.1;
       found = head_found i.0 (ready_of c.args.self.now) c.loop-v.tail i.1 c.loop-v.head c.in-Some.v h.0 h.1;
     }

@@ -3,7 +3,7 @@ use Rattle.rows.specs.Search.{among}
 use Rattle.rows.specs.View.{rows_of, queue_of, parent_of, turn_of}
 use Rattle.rows.proofs.Ghosts.{ready_of}
 use Rattle.rows.proofs.Finding.{tail_le}
-use Rattle.rows.proofs.Visiting.{kept_trans, marked_kept, went_on_trans, cell_at, cell_free, cell_seen, cell_in, cell_why, cell_then, read_on}
+use Rattle.rows.proofs.Visiting.{kept_trans, went_on_trans, cell_at, cell_free, cell_seen, cell_in, cell_why, cell_then, read_on}
 use Rattle.rows.proofs.link_rows.LinkRows.visit_row.Goals as goal
 use Rattle.rows.proofs.link_rows.LinkRows.visit_row.Goals.{then-not-is_marked, else-not-is_marked}
 
@@ -28,24 +28,21 @@ returns-then-c c =
 pub note-requires : goal.note-requires
 note-requires c =
     let i = c.loop-j.invariant in
-    let marked = marked_kept i.0 c.requires.marked in
     record {
-      marked = marked;
       searching = i.1;
       inside = cell_in i.0 (ready_of c.args.self.now) c.args.v c.loop-j.j c.loop-j-test.true c.requires.found c.if-c.false;
-      fresh = cell_seen i.0 (ready_of c.args.self.now) c.args.v c.loop-j.j c.loop-j-test.true c.requires.found c.loop-j.marks.n c.is_marked.result marked.0 c.is_marked.ensures ∙ c.if-not-is_marked.true;
+      fresh = cell_seen i.0 (ready_of c.args.self.now) c.args.v c.loop-j.j c.loop-j-test.true c.requires.found c.loop-j.marks.n c.is_marked.result i.1.marked.0 c.is_marked.ensures ∙ c.if-not-is_marked.true;
       why = inr (cell_why i.0 (ready_of c.args.self.now) c.args.v c.loop-j.j c.loop-j-test.true c.requires.found c.if-c.false c.args.tail c.loop-j.tail i.2);
     }
 
 pub overflow_add-tail : goal.overflow_add-tail
 overflow_add-tail c =
     let m = c.note.new.self.memory in
-    omega (arith, tail_le m.n (rows_of m) (among m.n c.note.new.marks.bytes.now) (queue_of m) (parent_of m) (turn_of m) _ c.note.ensures.searching, c.note.ensures.kept.n, c.loop-j.invariant.0.n, (ready_of c.args.self.now).sound.small.0)
+    omega (arith, tail_le m.n (rows_of m) (among m.n c.note.new.marks.bytes.now) (queue_of m) (parent_of m) (turn_of m) _ c.note.ensures.searching.search, c.note.ensures.kept.n, c.loop-j.invariant.0.n, (ready_of c.args.self.now).sound.small.0)
 
 pub loop-j-preserved : goal.loop-j-preserved
 loop-j-preserved c =
     let i = c.loop-j.invariant in
-    let marked = marked_kept i.0 c.requires.marked in
     elim c.if-not-is_marked.branch [
       | then-not-is_marked w ↦
           let e = w.note.ensures in
@@ -63,7 +60,7 @@ loop-j-preserved c =
             i.2,
             below_more _ _ i.3
                 (cell_then i.0 (ready_of c.args.self.now) c.args.v c.loop-j.j c.loop-j-test.true c.requires.found c.if-c.false c.loop-j.marks
-                (cell_seen i.0 (ready_of c.args.self.now) c.args.v c.loop-j.j c.loop-j-test.true c.requires.found c.loop-j.marks.n c.is_marked.result marked.0 c.is_marked.ensures ∙ w.if-not-is_marked.false)),
+                (cell_seen i.0 (ready_of c.args.self.now) c.args.v c.loop-j.j c.loop-j-test.true c.requires.found c.loop-j.marks.n c.is_marked.result i.1.marked.0 c.is_marked.ensures ∙ w.if-not-is_marked.false)),
           )
     ]
 
