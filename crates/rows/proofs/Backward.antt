@@ -9,7 +9,6 @@ use Rattle.crowding.specs.Orientation.{Rows, Oriented, cells}
 use Rattle.crowding.specs.Putting.{Put}
 use Rattle.crowding.specs.Table.{table_rows}
 use Rattle.crowding.specs.Turning.{Turning}
-use Rattle.rows.specs.Keeping.{Keeps}
 use Rattle.rows.specs.Sound.{Sound}
 use Rattle.rows.specs.Steps.{SameBesideCells, TurnedTo, OnTheWay}
 use Rattle.rows.specs.View.{parents, rows_of, parent_of, turn_of, Ready}

@@ -1,5 +1,5 @@
 -- Writes into a table of rows.
-use Rattle.std.proofs.Common.{◌≡◌, ℕ, ◌+◌, ◌-◌, ◌*◌, ◌/◌, ◌%◌, ◌<◌, ◌≤◌, Bool, true, ◌&&◌, eqb, ◌⊎◌, List, length, get_or, take, drop, set, count_by, position, unwrap_or, is_some, MatchBool, Some, None, Option, sym, ap, ◌∙◌, subst, inl, inr, mul-le-mul_right, arith}
+use Rattle.std.proofs.Common.{◌≡◌, ℕ, ◌+◌, ◌-◌, ◌*◌, ◌/◌, ◌%◌, ◌<◌, ◌≤◌, Bool, true, ◌&&◌, eqb, ◌⊎◌, List, length, get_or, take, drop, set, count_by, position, unwrap_or, is_some, MatchBool, Some, None, Option, sym, refl, ap, ◌∙◌, subst, inl, inr, mul-le-mul_right, arith}
 use Rattle.std.specs.List.{ContainsAt, position_or_len}
 use Rattle.std.proofs.lemmas.Grind.{common_steps}
 use Rattle.std.proofs.lemmas.Nat.{div-mul-add, mod-mul-add}
@@ -174,6 +174,13 @@ room_by k t v long (Some i) e b h =
     subst (λ (x : Bool). MatchBool x (length (table_rows k t v) < k) (length (table_rows k t v) ≡ k)) (sym h) ((row_full k t v long).1 i f.0 f.1)
 room_by k t v long None e b h =
     subst (λ (x : Bool). MatchBool x (length (table_rows k t v) < k) (length (table_rows k t v) ≡ k)) (sym h) ((row_full k t v long).0 (found_none k t v 65535 long (sym e)))
+
+-- a row with fewer than k has a free cell
+pub free_found
+    : (k : ℕ) (t : List ℕ) (v : ℕ) → v * k + k ≤ length t → length (table_rows k t v) < k → (o : Option ℕ) → o ≡ position (λ x. eqb x 65535) (row k t v)
+    → is_some o ≡ true
+free_found k t v long l (Some j) e = refl
+free_found k t v long l None e = absurd (omega (arith, (row_full k t v long).0 (found_none k t v 65535 long (sym e))))
 
 -- what no cell has, no row has
 pub not_there

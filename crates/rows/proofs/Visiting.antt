@@ -8,7 +8,6 @@ use Rattle.maps.specs.Marks.{marked}
 use Rattle.maps.specs.declared.marks.Marks.{Marks}
 use Rattle.crowding.specs.Orientation.{Rows, Oriented}
 use Rattle.crowding.specs.Reach.{Reach}
-use Rattle.crowding.specs.Table.{table_rows}
 use Rattle.crowding.proofs.Tables.{row_full, row_has}
 use Rattle.rows.specs.Keeping.{Keeps, SameShape}
 use Rattle.rows.specs.Lent.{StillLent}

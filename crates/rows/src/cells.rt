@@ -42,10 +42,8 @@ impl LinkRows<'_> {
         ensures put { Put self.old.memory.n v c (rows_of self.old.memory) (rows_of self.new.memory) }
         ensures rest { SameBesideCells self.old.memory self.new.memory }
     {
-        let from = v as usize * self.memory.k;
-        if let Some(j) = self.find(v, EMPTY) {
-            self.memory.table[from + j] = c;
-        }
+        let j = self.find(v, EMPTY).unwrap();
+        self.memory.table[v as usize * self.memory.k + j] = c;
     }
 
     // Takes `c` out of row `v` and closes the gap with the row's last filled cell. False, and nothing changed, if the row does not hold it.

@@ -56,7 +56,9 @@ impl LinkRows<'_> {
         requires { tail ≤ length self.now.memory.records.now }
         ensures { MatchOption result (tail ≤ head) (λ v. (head < tail) × (v ≡ queued self.now.memory head)) }
     {
-        self.memory.records[..tail].get(head).map(|found| found.queue)
+        self.memory.records[..tail]
+            .get(head)
+            .map(|found| found.queue)
     }
 
     // Goes through the spaces found, beginning with the two that are noted, until one has a free cell.

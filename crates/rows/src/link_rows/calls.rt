@@ -76,7 +76,7 @@ impl<'a> LinkRows<'a> {
         Ok(())
     }
 
-    // Whether both are spaces.
+    // Whether both are spaces. The two ends go as two numbers, as in the public calls and in `read_link`.
     fn has_both(&self, a: u16, b: u16) -> bool
         ensures { MatchBool result (InsideEnds self.now.memory a b) (OutsideEnd self.now.memory a b) }
     {
@@ -141,7 +141,7 @@ impl<'a> LinkRows<'a> {
         self.lay_by_search(a, b, members, marks)
     }
 
-    // Lifts the link of `a` and `b`. False, and nothing changed, if it is not kept.
+    // Lifts the link of `a` and `b`. False, and nothing changed, if it is not kept: a bool, as a set's `remove` answers.
     pub fn lift(&mut self, a: u16, b: u16) -> bool
         ensures { LiftAnswer self.old.memory self.new.memory a b result }
     {

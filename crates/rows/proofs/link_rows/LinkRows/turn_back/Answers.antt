@@ -1,6 +1,5 @@
-use Rattle.std.proofs.Common.{refl, arith}
+use Rattle.std.proofs.Common.{arith}
 use Rattle.rows.proofs.Backward.{w_space, w_record, turned_to, parent_space, parent_has, parent_before, w_room, gone_on}
-use Rattle.rows.proofs.Changes.{past_same}
 use Rattle.rows.proofs.Ghosts.{ready_of}
 use Rattle.rows.proofs.Taking.{out_of}
 use Rattle.rows.proofs.link_rows.LinkRows.turn_back.Goals as goal
