@@ -30,7 +30,9 @@ impl LinkRows<'_> {
     // Whether row `v` has a free cell.
     pub(crate) fn has_room(&self, v: u16) -> bool
         requires { v < self.now.memory.n }
-        ensures { MatchBool result (length (rows_of self.now.memory v) < self.now.memory.k) (length (rows_of self.now.memory v) ≡ self.now.memory.k) }
+        ensures { MatchBool result
+            (length (rows_of self.now.memory v) < self.now.memory.k)
+            (length (rows_of self.now.memory v) ≡ self.now.memory.k) }
     {
         self.find(v, EMPTY).is_some()
     }

@@ -15,7 +15,8 @@ use maps::marks::Marks;
 // Writes the spaces that are marked, of the first `n`, as 1 and the others as 0.
 fn show(found: &Marks<'_>, n: usize, members: &mut [u8])
     requires { (found.now.n ≡ n) × (n ≤ length members.old) }
-    ensures shown { (x : ℕ) → x < n → slice_index members.new x ≡ (if among n found.now.bytes.now x then 1 else 0) }
+    ensures shown { (x : ℕ) → x < n →
+        slice_index members.new x ≡ (if among n found.now.bytes.now x then 1 else 0) }
     ensures past { (x : ℕ) → n ≤ x → slice_index members.new x ≡ slice_index members.old x }
 {
     for (i, member) in members[..n].iter_mut().enumerate() {

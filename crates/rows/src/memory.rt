@@ -85,7 +85,8 @@ impl Memory<'_> {
     // Moves what the cell at `last` holds to `gap`, and empties that cell.
     pub(crate) fn close_gap(&mut self, gap: usize, last: usize)
         requires { (gap < length self.old.table.now) × (last < length self.old.table.now) }
-        ensures table { self.new.table.now ≡ slice_set (slice_set self.old.table.now gap (slice_index self.old.table.now last)) last 65535 }
+        ensures table { self.new.table.now ≡
+            slice_set (slice_set self.old.table.now gap (slice_index self.old.table.now last)) last 65535 }
         ensures n { self.new.n ≡ self.old.n }
         ensures k { self.new.k ≡ self.old.k }
         ensures records { self.new.records.now ≡ self.old.records.now }

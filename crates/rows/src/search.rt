@@ -17,7 +17,8 @@ impl LinkRows<'_> {
         requires searching { Searching self.old.memory marks.old tail }
         requires inside { x < self.old.memory.n }
         requires fresh { seen self.old.memory marks.old x ≡ false }
-        requires why { (tail < 2) ⊎ ((seen self.old.memory marks.old parent ≡ true) × ContainsAt (rows_of self.old.memory parent) x) }
+        requires why { (tail < 2) ⊎
+            ((seen self.old.memory marks.old parent ≡ true) × ContainsAt (rows_of self.old.memory parent) x) }
         ensures kept { Kept self.old.memory self.new.memory marks.old marks.new }
         ensures searching { Searching self.new.memory marks.new (tail + 1) }
         ensures grown { WentOn self.old.memory self.new.memory marks.old marks.new tail (tail + 1) }
@@ -85,7 +86,9 @@ impl LinkRows<'_> {
         requires none { (x : ℕ) → seen self.old.memory marks.old x ≡ false }
         requires ends { TwoSpaces self.old.memory a b }
         ensures kept { Kept self.old.memory self.new.memory marks.old marks.new }
-        ensures answer { MatchOption result (Stuck self.new.memory marks.new a b) (λ w. Trail self.new.memory (seen self.new.memory marks.new) a b w) }
+        ensures answer { MatchOption result
+            (Stuck self.new.memory marks.new a b)
+            (λ w. Trail self.new.memory (seen self.new.memory marks.new) a b w) }
     {
         self.note(marks, a, a, 0);
         self.note(marks, b, b, 1);
