@@ -1,20 +1,27 @@
 -- A link laid in rows of a table, and rows that keep none.
-use Rattle.std.proofs.Common.{◌≡◌, ℕ, ◌+◌, ◌*◌, ◌<◌, ◌≤◌, ◌⊎◌, List, [], ◌∷◌, length, get_or, sym, ap, ◌∙◌, subst, inl, inr, mul-le-mul_right, arith}
+use Rattle.std.proofs.Common.{◌≡◌, ℕ, ◌+◌, ◌*◌, ◌<◌, ◌≤◌, List, [], ◌∷◌, length, get_or, Ok, Err, Result, sym, ap, ◌∙◌, subst, inl, inr, mul-le-mul_right, arith}
 use Rattle.std.specs.List.{ContainsAt}
 use Rattle.std.proofs.lemmas.List.Sums.{sum_by-cons}
-use Rattle.maps.specs.Density.{Crowded}
+use Rattle.maps.specs.Density.{Crowded as Crowded-map}
 use Rattle.maps.specs.Links.{Link}
+use Rattle.maps.specs.Marks.{Cleared}
 use Rattle.crowding.specs.Bags.{SameLinks}
-use Rattle.crowding.specs.Orientation.{Oriented, cells}
+use Rattle.crowding.specs.Orientation.{Rows, Oriented, cells}
 use Rattle.crowding.specs.Putting.{Put}
 use Rattle.crowding.specs.Table.{table_rows}
 use Rattle.crowding.proofs.Moves.{laid, relinked}
 use Rattle.crowding.proofs.Sums.{bit}
 use Rattle.crowding.proofs.Uniform.{not_crowded}
-use Rattle.rows.specs.Keeping.{Laid}
+use Rattle.rows.specs.Calls.{LayAnswer, LongEnough}
+use Rattle.rows.specs.Keeping.{Keeps, Laid, SameShape}
+use Rattle.rows.specs.LayEnd.{Ends, LayEnd, TwoSpaces}
 use Rattle.rows.specs.Sound.{Sound}
+use Rattle.rows.specs.View.{rows_of}
+use Rattle.rows.specs.declared.link_rows.calls.Refusal.{Refusal}
+use Rattle.rows.specs.declared.link_rows.calls.Refusal.TheVariants.{ShortMemory, EndOutOfRange, EqualEnds, Crowded}
 use Rattle.rows.specs.declared.memory.Memory.{Memory}
 use Rattle.rows.proofs.Backward.{own}
+use Rattle.rows.proofs.Ghosts.{keeps_at}
 use Rattle.rows.proofs.Kept.{no_cells}
 use Rattle.rows.proofs.Table.{row_in, row_cell, row_some}
 
@@ -22,49 +29,38 @@ use Rattle.rows.proofs.Table.{row_in, row_cell, row_some}
 pub swapped : (a b : ℕ) (links : List Link) → SameLinks ((b, a) ∷ links) ((a, b) ∷ links)
 swapped a b links p s = omega (arith, sum_by-cons (λ l. bit (p l)) (b, a) links, sum_by-cons (λ l. bit (p l)) (a, b) links, ap bit (s a b))
 
--- the links are the same until one is put into row r
+-- one is put into row r
 module _
-    (n k : ℕ) (t t₂ t₃ : List ℕ) (a b r o : ℕ) (a_in : a < n) (b_in : b < n) (ends : ((r ≡ a) × (o ≡ b)) ⊎ ((r ≡ b) × (o ≡ a)))
-    (turned : (links : List Link) → Oriented (λ _. k) n (table_rows k t) links → Oriented (λ _. k) n (table_rows k t₂) links)
-    (free : length (table_rows k t₂ r) < k) (put : Put n r o (table_rows k t₂) (table_rows k t₃)) where
-  laid_here : (links : List Link) → Oriented (λ _. k) n (table_rows k t) links → Oriented (λ _. k) n (table_rows k t₃) ((a, b) ∷ links)
-  laid_here links h =
+    (n k : ℕ) (row row' : Rows) (links : List Link) (a b r o : ℕ) (a_in : a < n) (b_in : b < n) (ends : Ends a b r o)
+    (kept : Oriented (λ _. k) n row links) (free : length (row r) < k) (put : Put n r o row row') where
+  laid_here : Oriented (λ _. k) n row' ((a, b) ∷ links)
+  laid_here =
       elim ends [
         | inl (ra, ob) ↦
-            subst (λ (x : ℕ). Oriented (λ _. k) n (table_rows k t₃) ((a, x) ∷ links)) ob
-            (subst (λ (x : ℕ). Oriented (λ _. k) n (table_rows k t₃) ((x, o) ∷ links)) ra
-            (laid (λ _. k) n (table_rows k t₂) (table_rows k t₃) links r o (turned links h) (rw ra a_in) (rw ob b_in) free put))
+            subst (λ (x : ℕ). Oriented (λ _. k) n row' ((a, x) ∷ links)) ob
+            (subst (λ (x : ℕ). Oriented (λ _. k) n row' ((x, o) ∷ links)) ra
+            (laid (λ _. k) n row row' links r o kept (rw ra a_in) (rw ob b_in) free put))
         | inr (rb, oa) ↦
-            relinked (λ _. k) n (table_rows k t₃) ((b, a) ∷ links) ((a, b) ∷ links)
-            (subst (λ (x : ℕ). Oriented (λ _. k) n (table_rows k t₃) ((b, x) ∷ links)) oa
-            (subst (λ (x : ℕ). Oriented (λ _. k) n (table_rows k t₃) ((x, o) ∷ links)) rb
-            (laid (λ _. k) n (table_rows k t₂) (table_rows k t₃) links r o (turned links h) (rw rb b_in) (rw oa a_in) free put)))
+            relinked (λ _. k) n row' ((b, a) ∷ links) ((a, b) ∷ links)
+            (subst (λ (x : ℕ). Oriented (λ _. k) n row' ((b, x) ∷ links)) oa
+            (subst (λ (x : ℕ). Oriented (λ _. k) n row' ((x, o) ∷ links)) rb
+            (laid (λ _. k) n row row' links r o kept (rw rb b_in) (rw oa a_in) free put)))
             (swapped a b links)
       ]
 
-  pub laid_end
-      : (links : List Link) → Oriented (λ _. k) n (table_rows k t) links
-      → Oriented (λ _. k) n (table_rows k t₃) ((a, b) ∷ links) × (Crowded k n ((a, b) ∷ links) → ⊥)
-  laid_end links h = (laid_here links h, not_crowded k n (table_rows k t₃) ((a, b) ∷ links) (laid_here links h))
+  laid_fits : Crowded-map k n ((a, b) ∷ links) → ⊥
+  laid_fits = not_crowded k n row' ((a, b) ∷ links) laid_here
 
--- the same of memory that has these numbers and tables
-abbrev Lays : ℕ → ℕ → ℕ → ℕ → List ℕ → ℕ → ℕ → List ℕ → Type 0
-Lays a b n k t n' k' t' = (links : List Link) → Oriented (λ _. k) n (table_rows k t) links → Oriented (λ _. k') n' (table_rows k' t') ((a, b) ∷ links) × (Crowded k n ((a, b) ∷ links) → ⊥)
-
-pub laid_at
-    : (m m' : Memory) (a b n k : ℕ) (t t' : List ℕ) → n ≡ m.n → k ≡ m.k → t ≡ m.table.now → n ≡ m'.n → k ≡ m'.k → t' ≡ m'.table.now
-    → Lays a b n k t n k t' → Laid m m' a b
-laid_at m m' a b n k t t' en ek et en' ek' et' h =
-    let g = subst (λ (x : ℕ). Lays a b x m.k m.table.now m'.n m'.k m'.table.now) en
-    (subst (λ (x : ℕ). Lays a b n x m.table.now m'.n m'.k m'.table.now) ek
-    (subst (λ (x : List ℕ). Lays a b n k x m'.n m'.k m'.table.now) et
-    (subst (λ (x : ℕ). Lays a b n k t x m'.k m'.table.now) en'
-    (subst (λ (x : ℕ). Lays a b n k t n x m'.table.now) ek'
-    (subst (λ (x : List ℕ). Lays a b n k t n k x) et' h))))) in
-    record { keeps = λ links o. (g links o).0; fits = λ links o. (g links o).1 }
-
-pub sound_at : (n k n' k' : ℕ) (t : List ℕ) → n ≡ n' → k ≡ k' → Sound n k t → Sound n' k' t
-sound_at n k n' k' t en ek s = subst (λ (x : ℕ). Sound x k' t) en (subst (λ (x : ℕ). Sound n x t) ek s)
+-- the links are the same until one is put into row r
+pub laid_by
+    : (m m₁ m' : Memory) (a b r o : ℕ) → a < m₁.n → b < m₁.n → Ends a b r o → m₁.n ≡ m.n → m₁.k ≡ m.k → m'.n ≡ m₁.n → m'.k ≡ m₁.k
+    → ((links : List Link) → Keeps m links → Keeps m₁ links) → length (rows_of m₁ r) < m₁.k → Put m₁.n r o (rows_of m₁) (rows_of m') → Laid m m' a b
+laid_by m m₁ m' a b r o la lb ends en ek en' ek' same free put =
+    record {
+      keeps = λ links h. keeps_at m' m₁.n m₁.k ((a, b) ∷ links) en' ek' (laid_here m₁.n m₁.k (rows_of m₁) (rows_of m') links a b r o la lb ends (same links h) free put);
+      fits = λ links h. subst (λ (x : ℕ). Crowded-map m.k x ((a, b) ∷ links) → ⊥) en
+          (subst (λ (x : ℕ). Crowded-map x m₁.n ((a, b) ∷ links) → ⊥) ek (laid_fits m₁.n m₁.k (rows_of m₁) (rows_of m') links a b r o la lb ends (same links h) free put));
+    }
 
 -- rows whose cells are all empty keep nothing
 pub empty_keeps : (n k : ℕ) (t : List ℕ) → n * k ≤ length t → ((i : ℕ) → i < n * k → get_or t i 0 ≡ 65535) → Sound n k t → Oriented (λ _. k) n (table_rows k t) []
@@ -86,6 +82,16 @@ empty_sound n k t ln lk long h =
     }
 
 -- which end, and the other
-pub ends_in : (n a b r o : ℕ) → a < n → b < n → ((r ≡ a) × (o ≡ b)) ⊎ ((r ≡ b) × (o ≡ a)) → (r < n) × (o < n)
+pub ends_in : (n a b r o : ℕ) → a < n → b < n → Ends a b r o → (r < n) × (o < n)
 ends_in n a b r o la lb (inl (p, q)) = (rw p la, rw q lb)
 ends_in n a b r o la lb (inr (p, q)) = (rw p lb, rw q la)
+
+-- how a search ends, past the first three reasons
+pub lay_by
+    : (m m' : Memory) (a b : ℕ) (before after marks marks' : List ℕ) → LongEnough m before marks → TwoSpaces m a b → SameShape m m' → Cleared m.n marks marks'
+    → (r : Result (Unit {0}) Refusal) → LayEnd m m' a b before after r → LayAnswer m m' a b before after marks marks' r
+lay_by m m' a b before after marks marks' long ends shape clear (Ok _) e = (long, (ends.0, ends.1), ends.2, e.0, shape, e.1, clear)
+lay_by m m' a b before after marks marks' long ends shape clear (Err Crowded) e = (long, (ends.0, ends.1), ends.2, e.1, shape, e.2, clear)
+lay_by m m' a b before after marks marks' long ends shape clear (Err ShortMemory) e = let no : ⊥ = cc (e.0) in absurd no
+lay_by m m' a b before after marks marks' long ends shape clear (Err EndOutOfRange) e = let no : ⊥ = cc (e.0) in absurd no
+lay_by m m' a b before after marks marks' long ends shape clear (Err EqualEnds) e = let no : ⊥ = cc (e.0) in absurd no

@@ -9,6 +9,6 @@ pub mod Laid
 pub mod Lifts
 pub mod Noting
 pub mod Readings
-pub mod Records
 pub mod Table
+pub mod Taking
 pub mod Visiting

@@ -1,6 +1,7 @@
 -- The reading rule on rows that are filled first.
 use Rattle.std.proofs.Common.{◌≡◌, ℕ, suc, ◌+◌, ◌*◌, ◌<◌, ◌≤◌, min, max, true, false, ◌||◌, eqb, ◌⊎◌, List, [], ◌∷◌, length, get_or, drop, Decides, filter, sym, refl, ap, ◌∙◌, subst, inl, inr, arith}
 use Rattle.std.specs.List.{ContainsAt}
+use Rattle.std.proofs.Math.Logic.{⊎_swap}
 use Rattle.std.proofs.lemmas.List.{get_or-take, get_or-drop, length-take}
 use Rattle.std.proofs.lemmas.Bool.{cases_Bool, cases_lt, eqb-true, or_cases, or_parts}
 use Rattle.std.proofs.lemmas.Bool.Decides.{Decides-by_or, Decides-eqb, not_from_Decides}
@@ -68,10 +69,6 @@ module _ (n k : ℕ) (t : List ℕ) (s : Sound n k t) where
         let p = or_parts (names w (filled (row k t v))) (names v (filled (row k t w))) (sym (linked_is v w) ∙ e) in
         (not_from_Decides (names w (filled (row k t v))) (read_decides v w lv) p.0, not_from_Decides (names v (filled (row k t w))) (read_decides w v lw) p.1)
 
-    swap : {P Q : Type 0} → P ⊎ Q → Q ⊎ P
-    swap (inl p) = inr p
-    swap (inr q) = inl q
-
     pub reading_tells : (a b : ℕ) → a < n → b < n → (reading k t a b).0 ≡ some_same (a, b) links
     reading_tells a b la lb =
         elim (cases_lt a b) [
@@ -82,5 +79,5 @@ module _ (n k : ℕ) (t : List ℕ) (s : Sound n k t) where
           | inr g ↦
               let low : min a b ≡ b = omega arith in
               let high : max a b ≡ a = omega arith in
-              rw (low, high) (told (λ _. k) n (table_rows k t) links a b o la lb (reading_rows k t b a).0 (λ e. swap (yes_has b a lb la e)) (λ e. let p = no_has b a lb la e in (p.1, p.0)))
+              rw (low, high) (told (λ _. k) n (table_rows k t) links a b o la lb (reading_rows k t b a).0 (λ e. ⊎_swap (yes_has b a lb la e)) (λ e. let p = no_has b a lb la e in (p.1, p.0)))
         ]

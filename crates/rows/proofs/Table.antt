@@ -1,10 +1,14 @@
 -- Writes into a table of rows.
-use Rattle.std.proofs.Common.{◌≡◌, ℕ, ◌+◌, ◌*◌, ◌<◌, ◌≤◌, Bool, true, ◌&&◌, ◌⊎◌, List, length, take, drop, set, count_by, sym, ap, ◌∙◌, inl, inr, mul-le-mul_right, arith}
-use Rattle.std.specs.List.{ContainsAt}
-use Rattle.std.proofs.lemmas.List.{length-set, get_or-set_same, get_or-set_other}
-use Rattle.std.proofs.lemmas.List.Sums.{sum_by-cons}
-use Rattle.std.proofs.lemmas.Bool.{cases_eq, cases_lt, cases_order, both_ways}
+use Rattle.std.proofs.Common.{◌≡◌, ℕ, ◌+◌, ◌-◌, ◌*◌, ◌/◌, ◌%◌, ◌<◌, ◌≤◌, Bool, true, ◌&&◌, eqb, ◌⊎◌, List, length, get_or, take, drop, set, count_by, position, unwrap_or, is_some, MatchBool, Some, None, Option, sym, refl, ap, ◌∙◌, subst, inl, inr, mul-le-mul_right, arith}
+use Rattle.std.specs.List.{ContainsAt, position_or_len}
+use Rattle.std.proofs.lemmas.Grind.{common_steps}
+use Rattle.std.proofs.lemmas.Nat.{div-mul-add, mod-mul-add}
+use Rattle.std.proofs.lemmas.List.{length-set, length-take, length-drop, get_or-take, get_or-drop, get_or-set_same, get_or-set_other}
+use Rattle.std.proofs.lemmas.List.Quantifiers.{position-Some}
+use Rattle.std.proofs.lemmas.List.Sums.{sum_by-cons, fails_before_first}
+use Rattle.std.proofs.lemmas.Bool.{cases_eq, cases_lt, both_ways, eqb-true, eq-eqb}
 use Rattle.std.proofs.ByRecursion.{all-has, kept_by_passes}
+use Rattle.maps.specs.Reading.{row}
 use Rattle.crowding.specs.Putting.{Put}
 use Rattle.crowding.specs.Table.{occupied, table_rows}
 use Rattle.rows.specs.Past.{SameFrom}
@@ -15,12 +19,10 @@ use Rattle.rows.proofs.Changes.{past_write, past_trans}
 
 -- cells of different rows, or at different places of a row, are different
 pub apart : (k v w i j : ℕ) → i < k → j < k → v * k + i ≡ w * k + j → (v ≡ w) × (i ≡ j)
-apart k v w i j li lj e =
-    elim (cases_order v w) [
-      | inl q ↦ (q, omega (arith, ap (λ (x : ℕ). x * k) q))
-      | inr (inl b) ↦ absurd (omega (arith, mul-le-mul_right k b))
-      | inr (inr a) ↦ absurd (omega (arith, mul-le-mul_right k a))
-    ]
+apart k v w i j li lj e = (
+  sym (div-mul-add v k i li) ∙ ap (λ (x : ℕ). x / k) e ∙ div-mul-add w k j lj,
+  sym (mod-mul-add v k i li) ∙ ap (λ (x : ℕ). x % k) e ∙ mod-mul-add w k j lj,
+)
 
 -- row v of n lies in the table
 pub row_in : (n k len v : ℕ) → n * k ≤ len → v < n → v * k + k ≤ len
@@ -129,12 +131,56 @@ module _ (k : ℕ) (t : List ℕ) (v i m c : ℕ) (li : i < k) (lm : m < k) (le 
         ];
       }
 
--- where a search for an empty cell stops
+-- the cells of a row, as a list
+pub row_at : (k : ℕ) (t : List ℕ) (v j : ℕ) → j < k → get_or (row k t v) j 0 ≡ cell k t v j
+row_at k t v j l = get_or-take k (drop (v * k) t) j 0 l ∙ get_or-drop (v * k) t j 0
+
+row_length : (k : ℕ) (t : List ℕ) (v : ℕ) → v * k + k ≤ length t → length (row k t v) ≡ k
+row_length k t v l = omega (arith, length-take k (drop (v * k) t), length-drop (v * k) t)
+
+-- the first cell that holds c, or that there is none
+pub found_at
+    : (k : ℕ) (t : List ℕ) (v c i : ℕ) → v * k + k ≤ length t → position (λ x. eqb x c) (row k t v) ≡ Some i
+    → (i < k) × (cell k t v i ≡ c) × ((j : ℕ) → j < i → cell k t v j ≡ c → ⊥)
+found_at k t v c i long e =
+    let p = position-Some (λ x. eqb x c) (row k t v) i 0 e in
+    let li : i < k = omega (arith, p.0, row_length k t v long) in (
+      li,
+      sym (row_at k t v i li) ∙ eqb-true (get_or (row k t v) i 0) c p.1,
+      λ j lj q. both_ways (eqb (get_or (row k t v) j 0) c) (p.2 j lj) (eq-eqb (get_or (row k t v) j 0) c (row_at k t v j (omega arith) ∙ q)),
+    )
+
+pub found_none
+    : (k : ℕ) (t : List ℕ) (v c : ℕ) → v * k + k ≤ length t → position (λ x. eqb x c) (row k t v) ≡ None
+    → (j : ℕ) → j < k → cell k t v j ≡ c → ⊥
+found_none k t v c long e j lj q =
+    let far : length (row k t v) ≤ position_or_len (λ x. eqb x c) (row k t v) = grind (arith, common_steps) in
+    let no = fails_before_first (λ x. eqb x c) (row k t v) j 0 (omega (arith, row_length k t v long)) in
+    both_ways (eqb (get_or (row k t v) j 0) c) no (eq-eqb (get_or (row k t v) j 0) c (row_at k t v j lj ∙ q))
+
+-- where a search stops that goes on to the end of the row
+pub stop
+    : (k : ℕ) (t : List ℕ) (v c : ℕ) → v * k + k ≤ length t → (o : Option ℕ) → o ≡ position (λ x. eqb x c) (row k t v)
+    → (unwrap_or o k ≤ k) × ((j : ℕ) → j < unwrap_or o k → cell k t v j ≡ c → ⊥) × (unwrap_or o k < k → cell k t v (unwrap_or o k) ≡ c)
+stop k t v c long None e = (omega arith, found_none k t v c long (sym e), λ l. absurd (omega arith))
+stop k t v c long (Some i) e = let f = found_at k t v c i long (sym e) in (omega (arith, f.0), f.2, λ _. f.1)
+
+-- whether a row has a free cell
+pub room_by
+    : (k : ℕ) (t : List ℕ) (v : ℕ) → v * k + k ≤ length t → (o : Option ℕ) → o ≡ position (λ x. eqb x 65535) (row k t v)
+    → (b : Bool) → b ≡ is_some o → MatchBool b (length (table_rows k t v) < k) (length (table_rows k t v) ≡ k)
+room_by k t v long (Some i) e b h =
+    let f = found_at k t v 65535 i long (sym e) in
+    subst (λ (x : Bool). MatchBool x (length (table_rows k t v) < k) (length (table_rows k t v) ≡ k)) (sym h) ((row_full k t v long).1 i f.0 f.1)
+room_by k t v long None e b h =
+    subst (λ (x : Bool). MatchBool x (length (table_rows k t v) < k) (length (table_rows k t v) ≡ k)) (sym h) ((row_full k t v long).0 (found_none k t v 65535 long (sym e)))
+
+-- a row with fewer than k has a free cell
 pub free_found
-    : (k : ℕ) (t : List ℕ) (v r : ℕ) → v * k + k ≤ length t → r ≤ k → ((j : ℕ) → j < r → cell k t v j ≡ 65535 → ⊥)
-    → length (table_rows k t v) < k → r < k
-free_found k t v r row le h free =
-    elim (cases_lt r k) [ inl l ↦ l | inr ge ↦ absurd (omega (arith, (row_full k t v row).0 (λ j lj. h j (omega arith)))) ]
+    : (k : ℕ) (t : List ℕ) (v : ℕ) → v * k + k ≤ length t → length (table_rows k t v) < k → (o : Option ℕ) → o ≡ position (λ x. eqb x 65535) (row k t v)
+    → is_some o ≡ true
+free_found k t v long l (Some j) e = refl
+free_found k t v long l None e = absurd (omega (arith, (row_full k t v long).0 (found_none k t v 65535 long (sym e))))
 
 -- what no cell has, no row has
 pub not_there
@@ -155,3 +201,12 @@ row_some k t v c h e = both_ways (occupied c) (occupied_no c e) (all-has (λ x. 
 
 pub row_cell : (k : ℕ) (t : List ℕ) (v c : ℕ) → v * k + k ≤ length t → ContainsAt (table_rows k t v) c → (j : ℕ) × (j < k) × (cell k t v j ≡ c)
 row_cell k t v c l h = (row_has k t v c l (row_some k t v c h)).1 h
+
+-- c stands at i, and a search for an empty cell stops at r: the last occupied one, before r, can be moved to i
+pub taken
+    : (k : ℕ) (t : List ℕ) (v i r c : ℕ) → FilledFirst k t v → c < 65535 → i < k → cell k t v i ≡ c
+    → (r ≤ k) × ((j : ℕ) → j < r → cell k t v j ≡ 65535 → ⊥) × (r < k → cell k t v r ≡ 65535)
+    → (1 ≤ r) × (r - 1 < k) × (i ≤ r - 1) × (cell k t v (r - 1) ≡ 65535 → ⊥) × ((j : ℕ) → r - 1 < j → j < k → cell k t v j ≡ 65535)
+taken k t v i r c first some li e (le, full, free) =
+    let l : i < r = before_empty k t v i r c first li e some le free in
+    (omega arith, omega arith, omega arith, full (r - 1) (omega arith), λ j lj lk. first r j (omega arith) lk (free (omega arith)))

@@ -5,6 +5,7 @@ use Rattle.maps.specs.Reading.{reading}
 use Rattle.maps.specs.declared.reading.Reading.{Reading}
 use Rattle.rows.specs.Keeping.{Keeps, SameShape, Laid, Reported, Lifted, Tells}
 use Rattle.rows.specs.Past.{SameFrom}
+use Rattle.rows.specs.declared.link_rows.calls.ShortMemory.{ShortMemory as NotEnough}
 use Rattle.rows.specs.declared.link_rows.calls.Refusal.{Refusal}
 use Rattle.rows.specs.declared.link_rows.calls.Refusal.TheVariants.{ShortMemory, EndOutOfRange, EqualEnds, Crowded}
 use Rattle.rows.specs.declared.memory.Memory.{Memory}
@@ -14,12 +15,12 @@ abbrev pub enough : (n k records cells : ℕ) → Bool
 enough n k records cells = nat_le n 4096 && (nat_le k 8 && (nat_le n records && nat_le (n * k) cells))
 
 -- cleared for n spaces and k cells to each, if the memory is enough; else nothing is changed
-abbrev pub ClearAnswer : Memory → Memory → (n k : ℕ) → Bool → Type 0
-ClearAnswer m m' n k true =
+abbrev pub ClearAnswer : Memory → Memory → (n k : ℕ) → Result (Unit {0}) NotEnough → Type 0
+ClearAnswer m m' n k (Ok _) =
     (m'.n ≡ n) × (m'.k ≡ k) × Keeps m' []
     × SameFrom (n * k) m.table.now m'.table.now
     × (m'.records.now ≡ m.records.now)
-ClearAnswer m m' n k false = m' ≡ m
+ClearAnswer m m' n k (Err _) = m' ≡ m
 
 -- both ends are spaces
 abbrev pub InsideEnds : Memory → ℕ → ℕ → Type 0

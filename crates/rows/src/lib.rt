@@ -3,7 +3,6 @@
 
 mod cells;
 mod lay;
-mod lift;
 pub mod link_rows;
 pub mod memory;
 mod search;

@@ -1,28 +1,29 @@
 // The way back from a free cell.
 ghost use Rattle.maps.specs.Sets.{Spaces};
+ghost use Rattle.rows.specs.LayEnd.{Ends};
 ghost use Rattle.rows.specs.Steps.{Trail, TurnedTo};
-ghost use Rattle.rows.specs.View.{Ready};
-ghost use Rattle.std.specs.Prelude.{◌≡◌, ◌⊎◌};
 
-use crate::cells::{put_in, take_out};
-use crate::memory::Memory;
+use crate::link_rows::LinkRows;
 
-impl<'a> Memory<'a> {
-    // Turns the links on the way back from `w`, which has a free cell, until `a` or `b` has one: which of them.
-    pub(crate) fn turn_back(&mut self, w: u16, a: u16, b: u16) -> u16
-        requires ready { Ready self.old }
-        requires trail { (found : Spaces) × Trail self.old found a b w }
-        ensures end { (result ≡ a) ⊎ (result ≡ b) }
-        ensures turned { TurnedTo self.old self.new result }
+impl LinkRows<'_> {
+    // Turns the links on the way back from `w`, which has a free cell, until `a` or `b` has one: that end, and the other.
+    pub(crate) fn turn_back(&mut self, w: u16, a: u16, b: u16) -> (u16, u16)
+        requires { (found : Spaces) × Trail self.old.memory found a b w }
+        ensures ends { Ends a b result.0 result.1 }
+        ensures turned { TurnedTo self.old.memory self.new.memory result.0 }
     {
-        let k = self.k;
         let mut w = w;
-        while w != a && w != b {
-            let p = self.records[w as usize].parent;
-            let _ = take_out(self.table, k, p as usize, w);
-            put_in(self.table, k, w as usize, p);
+        'back: loop {
+            if w == a {
+                return (a, b);
+            }
+            if w == b {
+                return (b, a);
+            }
+            let p = self.memory.records[w as usize].parent;
+            self.take_out(p, w);
+            self.put_in(w, p);
             w = p;
         }
-        w
     }
 }

@@ -1,18 +1,39 @@
 // Paths of up to 4,096 spaces with one cell to each, and one link more than a path.
 use rows::link_rows::LinkRows;
 use rows::memory::SpaceRecord;
+use std::fmt;
 
 // What was counted.
 #[derive(Drop)]
 pub(crate) struct Counts {
-    pub laid: u32,
-    pub closed: bool,
-    pub read: u32,
-    pub one_more: bool,
-    pub members: u32,
-    pub marked: u32,
-    pub again: u32,
-    pub read_again: u32,
+    laid: usize,
+    closed: bool,
+    read: usize,
+    one_more: bool,
+    members: usize,
+    marked: usize,
+    again: usize,
+    read_again: usize,
+}
+
+impl fmt::Display for Counts {
+    fn fmt<W: fmt::Write>(&self, f: &mut fmt::Formatter<W>) -> fmt::Result {
+        write!(
+            f,
+            "{} laid, closed {}, {} read, ",
+            self.laid, self.closed, self.read
+        )?;
+        write!(
+            f,
+            "one more {}, {} in the set, {} marks left, ",
+            self.one_more, self.members, self.marked
+        )?;
+        write!(
+            f,
+            "{} lifted and laid again, {} read",
+            self.again, self.read_again
+        )
+    }
 }
 
 // Lays the links of a path of `n` spaces so that the space `free` is left with a free cell: how many.
@@ -22,57 +43,44 @@ fn lay_path(
     free: u16,
     members: &mut [u8],
     marks: &mut [u8],
-) -> u32 {
-    let mut laid = 0u32;
-    for i in 1..n {
-        let answer = if i <= free {
-            rows.lay(i - 1, i, members, marks)
+) -> usize {
+    (0..n)
+        .zip(1..n)
+        .map(|(a, b)| if b <= free {
+            rows.lay(a, b, members, marks)
         } else {
-            rows.lay(i, i - 1, members, marks)
-        };
-        if answer.is_ok() {
-            laid = laid.saturating_add(1);
-        }
-    }
-    laid
+            rows.lay(b, a, members, marks)
+        })
+        .filter(|answer| answer.is_ok())
+        .count()
 }
 
 // How many links of the path are read as kept, with the ends in either order.
-fn read_path(rows: &LinkRows<'_>, n: u16) -> u32 {
-    let mut read = 0u32;
-    for i in 1..n {
-        if let Some(r) = rows.read(i, i - 1) {
-            if r.linked {
-                read = read.saturating_add(1);
-            }
-        }
-    }
-    read
+fn read_path(rows: &LinkRows<'_>, n: u16) -> usize {
+    (0..n)
+        .zip(1..n)
+        .filter_map(|(a, b)| rows.read(b, a))
+        .filter(|reading| reading.linked)
+        .count()
 }
 
 // Lifts each link of the path and lays it again: how many could be, and were not read in between.
-fn lay_again(rows: &mut LinkRows<'_>, n: u16, members: &mut [u8], marks: &mut [u8]) -> u32 {
-    let mut again = 0u32;
-    for i in 1..n {
-        let lifted = rows.lift(i, i - 1);
-        let twice = rows.lift(i - 1, i);
-        let laid = rows.lay(i - 1, i, members, marks).is_ok();
-        if lifted && !twice && laid {
-            again = again.saturating_add(1);
-        }
-    }
-    again
+fn lay_again(rows: &mut LinkRows<'_>, n: u16, members: &mut [u8], marks: &mut [u8]) -> usize {
+    (0..n)
+        .zip(1..n)
+        .map(|(a, b)| {
+            let lifted = rows.lift(b, a);
+            let twice = rows.lift(a, b);
+            let laid = rows.lay(a, b, members, marks).is_ok();
+            lifted && !twice && laid
+        })
+        .filter(|again| *again)
+        .count()
 }
 
 // How many of the bytes are not 0.
-fn count(bytes: &[u8]) -> u32 {
-    let mut found = 0u32;
-    for b in bytes {
-        if *b != 0 {
-            found = found.saturating_add(1);
-        }
-    }
-    found
+fn count(bytes: &[u8]) -> usize {
+    bytes.iter().filter(|b| **b != 0).count()
 }
 
 // Lays a path, then the link of `a` and `b`, then the same once more; then lifts and lays each link of the path again.

@@ -1,23 +1,29 @@
 // The calls on links kept in rows. Each tests first.
-ghost use Rattle.rows.specs.Calls.{ClearAnswer, LayAnswer, LiftAnswer, ReadAnswer, enough};
+ghost use Rattle.maps.specs.Reading.{reading};
+ghost use Rattle.rows.specs.Calls.{ClearAnswer, InsideEnds, LayAnswer, LiftAnswer, OutsideEnd, ReadAnswer, enough};
 ghost use Rattle.rows.specs.Guarded.{LayGuardedAnswer};
 ghost use Rattle.rows.specs.Keeping.{Keeps, OwnLinks};
+ghost use Rattle.rows.specs.LayEnd.{EndsChecked};
 ghost use Rattle.rows.specs.Past.{SameFrom};
-ghost use Rattle.std.specs.Prelude.{◌≡◌, [], length};
+ghost use Rattle.std.specs.Prelude.{◌≡◌, ◌*◌, ◌≤◌, [], length, is_ok, MatchBool};
 
 use crate::link_rows::LinkRows;
 use crate::memory::{Memory, SpaceRecord};
 use maps::marks::Marks;
-use maps::reading::Reading;
+use maps::reading::{Reading, read_link};
 
 // Why a link is not laid.
-#[derive(Clone, Copy)]
+#[derive(Clone, Copy, Debug, PartialEq, Eq)]
 pub enum Refusal {
     ShortMemory,
     EndOutOfRange,
     EqualEnds,
     Crowded,
 }
+
+// The memory that was lent is not enough.
+#[derive(Clone, Copy, Debug, PartialEq, Eq)]
+pub struct ShortMemory;
 
 // What is said of every list of links that the rows keep is said of one at least.
 pub fn own_links_stand() -> u8
@@ -58,16 +64,36 @@ impl<'a> LinkRows<'a> {
         self.memory.is_enough(n, k)
     }
 
-    // Begins anew with `n` spaces, `k` cells to each, and no link. False, and nothing changed, if the memory is not enough.
-    pub fn clear(&mut self, n: usize, k: usize) -> bool
-        ensures when { result ≡ enough n k (length self.old.memory.records.now) (length self.old.memory.table.now) }
+    // Begins anew with `n` spaces, `k` cells to each, and no link. Refused, and nothing changed, if the memory is not enough.
+    pub fn clear(&mut self, n: usize, k: usize) -> Result<(), ShortMemory>
+        ensures when { is_ok result ≡ enough n k (length self.old.memory.records.now) (length self.old.memory.table.now) }
         ensures answer { ClearAnswer self.old.memory self.new.memory n k result }
     {
         if !self.memory.is_enough(n, k) {
-            return false;
+            return Err(ShortMemory);
         }
         self.memory.clear(n, k);
-        true
+        Ok(())
+    }
+
+    // Whether both are spaces. The two ends go as two numbers, as in the public calls and in `read_link`.
+    fn has_both(&self, a: u16, b: u16) -> bool
+        ensures { MatchBool result (InsideEnds self.now.memory a b) (OutsideEnd self.now.memory a b) }
+    {
+        (a as usize) < self.memory.n && (b as usize) < self.memory.n
+    }
+
+    // Whether a link may join `a` and `b`.
+    fn check_ends(&self, a: u16, b: u16) -> Result<(), Refusal>
+        ensures { EndsChecked self.now.memory a b result }
+    {
+        if !self.has_both(a, b) {
+            return Err(Refusal::EndOutOfRange);
+        }
+        if a == b {
+            return Err(Refusal::EqualEnds);
+        }
+        Ok(())
     }
 
     // Lays the link of `a` and `b`. If it is crowded, `members` gets the smallest set that the link would overfill.
@@ -84,16 +110,9 @@ impl<'a> LinkRows<'a> {
         if members.len() < n || marks.len() < n {
             return Err(Refusal::ShortMemory);
         }
-        if a as usize >= n || b as usize >= n {
-            return Err(Refusal::EndOutOfRange);
-        }
-        if a == b {
-            return Err(Refusal::EqualEnds);
-        }
-        match self.memory.lay(a, b, members, marks) {
-            Ok(()) => Ok(()),
-            Err(_) => Err(Refusal::Crowded),
-        }
+        self.check_ends(a, b)?;
+        let mut guard = Marks::new(marks, n);
+        self.lay_by_search(a, b, members, &mut guard)
     }
 
     // Lays the link of `a` and `b`. If it is crowded, `members` gets the smallest set that the link would overfill. The marks serve a search: what they hold means nothing before, and is free afterwards unless nothing was written.
@@ -110,43 +129,40 @@ impl<'a> LinkRows<'a> {
         ensures same { marks.new.bytes.ghost_name ≡ marks.old.bytes.ghost_name }
     {
         let n = self.memory.n;
-        if members.len() < n {
+        if members.len() < n || !marks.covers(n) {
             return Err(Refusal::ShortMemory);
         }
-        if !marks.covers(n) {
-            return Err(Refusal::ShortMemory);
+        self.check_ends(a, b)?;
+        if let Some((end, other)) = self.free_end(a, b) {
+            self.put_in(end, other);
+            return Ok(());
         }
-        if a as usize >= n || b as usize >= n {
-            return Err(Refusal::EndOutOfRange);
-        }
-        if a == b {
-            return Err(Refusal::EqualEnds);
-        }
-        match self.memory.lay_guarded(a, b, members, marks) {
-            Ok(()) => Ok(()),
-            Err(_) => Err(Refusal::Crowded),
-        }
+        marks.unmark_all();
+        self.lay_by_search(a, b, members, marks)
     }
 
-    // Lifts the link of `a` and `b`. False, and nothing changed, if it is not kept.
+    // Lifts the link of `a` and `b`. False, and nothing changed, if it is not kept: a bool, as a set's `remove` answers.
     pub fn lift(&mut self, a: u16, b: u16) -> bool
         ensures { LiftAnswer self.old.memory self.new.memory a b result }
     {
-        let n = self.memory.n;
-        if a as usize >= n || b as usize >= n {
+        if !self.has_both(a, b) {
             return false;
         }
-        self.memory.lift(a, b)
+        self.take_out(a, b) || self.take_out(b, a)
+    }
+
+    // Reads the rows of `a` and `b`, as far as the table has them.
+    fn read_rows(&self, a: u16, b: u16) -> Reading
+        ensures rule { (result.linked, result.cells) ≡ reading self.now.memory.k self.now.memory.table.now a b }
+        ensures few { result.cells ≤ 2 * self.now.memory.k }
+    {
+        read_link(self.memory.table, self.memory.k as u16, a, b)
     }
 
     // Reads the rows of `a` and `b` for their link. None if one of them is no space.
     pub fn read(&self, a: u16, b: u16) -> Option<Reading>
         ensures { ReadAnswer self.now.memory a b result }
     {
-        let n = self.memory.n;
-        if a as usize >= n || b as usize >= n {
-            return None;
-        }
-        Some(self.memory.read(a, b))
+        self.has_both(a, b).then_some(self.read_rows(a, b))
     }
 }

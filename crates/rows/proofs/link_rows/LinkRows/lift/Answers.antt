@@ -1,21 +1,21 @@
-use Rattle.std.proofs.Common.{refl, inl, inr, arith}
-use Rattle.rows.proofs.Ghosts.{ready_by}
-use Rattle.rows.proofs.Lifts.{outside_tells}
+use Rattle.std.proofs.Common.{Bool, sym, refl, subst}
+use Rattle.rows.specs.Calls.{LiftAnswer}
+use Rattle.rows.proofs.Ghosts.{ready_of}
+use Rattle.rows.proofs.Lifts.{outside_tells, lifted_first, lifted_then}
 use Rattle.rows.proofs.link_rows.LinkRows.lift.Goals as goal
-use Rattle.rows.proofs.link_rows.LinkRows.lift.Goals.{then-a-n-via-then-a-n, then-a-n-via-else-a-n+then-b-n}
 
-pub returns-then-a-n : goal.returns-then-a-n
-returns-then-a-n c =
-    let b = c.args.self.now in (
-      outside_tells b.memory c.args.a c.args.b
-          (elim c.then-a-n.branch [ then-a-n-via-then-a-n w ↦ inl w.if-a-n.true | then-a-n-via-else-a-n+then-b-n w ↦ inr w.if-b-n.true ]),
-      (refl, refl, refl, refl),
-    )
+pub returns-then-not-has_both : goal.returns-then-not-has_both
+returns-then-not-has_both c = (outside_tells c.args.self.now.memory c.args.a c.args.b c.if-not-has_both.ensures, (refl, refl, refl, refl))
 
-pub lift-requires : goal.lift-requires
-lift-requires c =
-    let b = c.args.self.now in
-    record {
-      ready = ready_by b.memory b.sizes b.names b.front;
-      inside = (omega arith, omega arith);
-    }
+pub returns-then-take_out : goal.returns-then-take_out
+returns-then-take_out c =
+    let m = c.args.self.now.memory in
+    let m' = c.take_out.new.self.memory in
+    subst (λ (t : Bool). LiftAnswer m m' c.args.a c.args.b t) (sym c.if-take_out.true)
+    (lifted_first m m' (ready_of c.take_out.new.self) c.args.a c.args.b c.if-not-has_both.ensures c.take_out.ensures.rest c.if-take_out.ensures.answer)
+
+pub returns-else-take_out : goal.returns-else-take_out
+returns-else-take_out c =
+    lifted_then c.args.self.now.memory c.take_out.new.self.memory c.take_out-else-take_out.new.self.memory (ready_of c.take_out-else-take_out.new.self)
+    c.args.a c.args.b c.if-not-has_both.ensures c.take_out.ensures.rest c.if-take_out.ensures.answer c.take_out-else-take_out.ensures.rest
+    c.take_out-else-take_out.result c.take_out-else-take_out.ensures.answer

@@ -1,0 +1,14 @@
+-- Marks that are lent for a search. Assumes nothing.
+use Rattle.std.specs.Prelude.{◌≡◌, ℕ, ◌≤◌, length}
+use Rattle.maps.specs.declared.marks.Marks.{Marks}
+use Rattle.rows.specs.Past.{SameFrom}
+
+-- the marks are those of so many spaces, with a byte for each
+abbrev pub MarksOf : ℕ → Marks → Type 0
+MarksOf spaces marks = (marks.n ≡ spaces) × (spaces ≤ length marks.bytes.now)
+
+-- the same marks, of which only the first bytes may have changed
+pub record StillLent (spaces : ℕ) (marks marks' : Marks) : Type 0 where
+  pub n : marks'.n ≡ marks.n
+  pub same : marks'.bytes.ghost_name ≡ marks.bytes.ghost_name
+  pub bytes : SameFrom spaces marks.bytes.now marks'.bytes.now
