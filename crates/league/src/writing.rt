@@ -50,12 +50,12 @@ pub fn put_last(print: &mut [u8], at: usize, text: &[u8]) -> usize
 pub fn put_number(print: &mut [u8], at: usize, number: u32) -> usize
     ensures { Puts print.old at (decimal number ++ (9 ∷ [])) result print.new }
 {
-    put_field(print, at, Text::from_u32(number).as_slice())
+    put_field(print, at, Text::from(number).as_slice())
 }
 
 // Writes a number in decimal as the last field of a line.
 pub fn put_last_number(print: &mut [u8], at: usize, number: u32) -> usize
     ensures { Puts print.old at (decimal number ++ (10 ∷ [])) result print.new }
 {
-    put_last(print, at, Text::from_u32(number).as_slice())
+    put_last(print, at, Text::from(number).as_slice())
 }

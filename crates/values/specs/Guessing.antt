@@ -1,7 +1,8 @@
 -- Reading a number from a text that may be one's own. Assumes nothing.
-use Rattle.std.specs.Prelude.{◌≡◌, ℕ, zero, suc, ◌+◌, ◌*◌, ◌/◌, ◌%◌, ◌^◌, ◌<◌, ◌≤◌, List, [], ◌∷◌, ◌++◌, length, ℤ, pos, negsuc, neg_ℤ, IfSome, Some, None, Ok, Err, IsUtf8, IsAscii, decimal, Option, Result, ◌≢◌, slice_index, unsigned_abs, refl}
+use Rattle.std.specs.Prelude.{◌≡◌, ℕ, zero, suc, ◌+◌, ◌*◌, ◌/◌, ◌%◌, ◌^◌, ◌<◌, ◌≤◌, List, [], ◌∷◌, ◌++◌, length, ℤ, pos, negsuc, neg_ℤ, IfSome, Some, None, Ok, Err, MatchResult, IsUtf8, IsAscii, decimal, Option, Result, ◌≢◌, slice_index, unsigned_abs, refl}
 use Rattle.std.proofs.Common.{sym, ◌∙◌, ap, subst, ⊎_elim, arith, length-append}
 use Rattle.std.specs.Borrow.{Bor}
+use Rattle.std.specs.Result.{result_ok}
 use Rattle.std.specs.Str.Parse.{ParsesUnsigned, ParsesSigned, AllDigits, digits_value}
 use Rattle.std.specs.Int.{IsInRange, w32}
 use Rattle.std.specs.Fmt.{signed_decimal}
@@ -167,3 +168,14 @@ utf8_points cs r =
 
 pub utf8_goods : (cs : List ℤ) → Readable cs → IsUtf8 (goods_text cs)
 utf8_goods cs r = IsUtf8-from_ascii (goods_text cs) (ascii_parted signed_decimal (λ z h. IsAscii-signed z (mag_small z (omega arith))) cs r)
+
+-- bytes that are read as a text, and bytes that are none
+pub same_text : {E : Type 0} (Q : E → Type 0) (bs : List ℕ) (r : Result (Bor (List ℕ)) E) (t : Bor (List ℕ)) → MatchResult r (λ s. (s.now ≡ bs) × IsUtf8 bs) Q
+    → Some t ≡ result_ok r → t.now ≡ bs
+same_text Q bs (Ok s) t h e = let q : t ≡ s = cc in ap (λ (x : Bor (List ℕ)). x.now) q ∙ h.0
+same_text Q bs (Err d) t h e = let z : ◌≡◌ {A = ℕ} 0 1 = cc in absurd (omega arith)
+
+pub no_text : {X E : Type 0} (P : Bor (List ℕ) → Type 0) (Q : E → Type 0) (text : X → List ℕ) (Ranges : X → Type 0) (bs : List ℕ) (r : Result (Bor (List ℕ)) E)
+    → MatchResult r P (λ e. (IsUtf8 bs → ⊥) × Q e) → None ≡ result_ok r → ((x : X) → Ranges x → IsUtf8 (text x)) → Guess text Ranges bs None
+no_text P Q text Ranges bs (Ok s) h e u = let z : ◌≡◌ {A = ℕ} 0 1 = cc in absurd (omega arith)
+no_text P Q text Ranges bs (Err d) h e u = record { found = λ x l q. absurd (h.0 (subst IsUtf8 (sym q) (u x l))); ranged = tt }

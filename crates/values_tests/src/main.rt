@@ -194,10 +194,10 @@ fn numbers(rt: &HostRuntime) -> io::Result<()> {
             None => println!(rt; " is no number")?,
         }
     }
-    print_bytes(rt, Text::from_u32(u32::MAX).as_slice())?;
+    print_bytes(rt, Text::from(u32::MAX).as_slice())?;
     for z in [i32::MIN, -10, 0, 9, 10, i32::MAX] {
         print!(rt; " ")?;
-        print_bytes(rt, Text::from_i32(z).as_slice())?;
+        print_bytes(rt, Text::from(z).as_slice())?;
     }
     println!(rt; "")
 }

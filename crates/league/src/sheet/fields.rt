@@ -27,7 +27,7 @@ fn points_text(weight: i64) -> Text
     requires { unsigned_abs weight ≤ 4000000000 }
     ensures { shown result ≡ signed_decimal (league_points_of weight) }
 {
-    Text::from_i32(league_points(weight) as i32)
+    Text::from(league_points(weight) as i32)
 }
 
 // The line of an owner among all owners, where there is room for it.

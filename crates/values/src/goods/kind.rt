@@ -121,11 +121,6 @@ impl Kind for Goods {
     }
 
     fn read(bytes: &[u8]) -> Option<Goods> {
-        let value = guess_goods(bytes)?;
-        if value.write().says(bytes) {
-            Some(value)
-        } else {
-            None
-        }
+        guess_goods(bytes).filter(|value| value.write().says(bytes))
     }
 }

@@ -92,11 +92,6 @@ impl Kind for Points {
     }
 
     fn read(bytes: &[u8]) -> Option<Points> {
-        let value = guess_points(bytes)?;
-        if value.write().says(bytes) {
-            Some(value)
-        } else {
-            None
-        }
+        guess_points(bytes).filter(|value| value.write().says(bytes))
     }
 }
