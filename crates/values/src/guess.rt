@@ -5,7 +5,7 @@ ghost use Rattle.values.specs.Guesses.{First, Guess, list_of};
 ghost use Rattle.values.specs.Texts.{goods_text, halves_text, points_text_of, signed_halves_text};
 ghost use Rattle.values.specs.Values.{goods_columns, points_columns};
 
-use crate::column::READABLE;
+use crate::columns::READABLE;
 use crate::goods::Goods;
 use crate::points::Points;
 

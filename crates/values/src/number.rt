@@ -7,5 +7,5 @@ use crate::text::Text;
 pub fn read_number(bytes: &[u8], most: u32) -> Option<u32>
     ensures { ReadsNumber most bytes.now result }
 {
-    guess_number(bytes, most).filter(|n| Text::from(*n).says(bytes))
+    guess_number(bytes, most).filter(|n| Text::from(*n).as_slice() == bytes)
 }

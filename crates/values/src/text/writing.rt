@@ -1,10 +1,10 @@
-ghost use Rattle.std.specs.Prelude.{◌≡◌, ◌+◌, ◌≤◌, [], ◌∷◌, ◌++◌, length, decimal, Decides, Some};
+ghost use Rattle.std.specs.Prelude.{◌≡◌, ◌+◌, ◌≤◌, [], ◌++◌, length, decimal, Some};
 ghost use Rattle.std.specs.Fmt.{signed_decimal};
+ghost use Rattle.values.specs.Columns.{Held};
 ghost use Rattle.values.specs.Shown.{shown};
 ghost use Rattle.values.specs.Texts.{goods_text, halves_text, minus};
 
 use super::Text;
-use crate::column::Column;
 use arrayvec::ArrayString;
 use itoa::{Buffer, Integer};
 use std::fmt;
@@ -37,13 +37,17 @@ impl fmt::Display for Text {
 
 impl Text {
     // Four columns in decimal, parted by commas.
-    pub(crate) fn from_four(a: &Column, b: &Column, c: &Column, d: &Column) -> Text
-        ensures { shown result ≡ goods_text (a.now.number ∷ (b.now.number ∷ (c.now.number ∷ (d.now.number ∷ [])))) }
+    pub(crate) fn parted(columns: &[i32; 4]) -> Text
+        requires { Held columns.now }
+        ensures { shown result ≡ goods_text columns.now }
     {
-        let mut text = Text::number(a.number());
-        text.push_next(b);
-        text.push_next(c);
-        text.push_next(d);
+        let mut text = Text::empty();
+        for (i, z) in columns.iter().enumerate() {
+            if i > 0 {
+                text.text.push(',');
+            }
+            text.push_number(*z);
+        }
         text
     }
 
@@ -52,13 +56,6 @@ impl Text {
         ensures short { length result.now ≤ 47 }
     {
         self.text.as_str().as_bytes()
-    }
-
-    // Whether the text is just these bytes.
-    pub(crate) fn says(&self, bytes: &[u8]) -> bool
-        ensures { Decides result (bytes.now ≡ shown self.now) }
-    {
-        self.as_slice() == bytes
     }
 
     pub(crate) fn empty() -> Text
@@ -97,16 +94,6 @@ impl Text {
         if z < 0 {
             self.text.push('-');
         }
-    }
-
-    // A comma and a column.
-    fn push_next(&mut self, column: &Column)
-        requires { length (shown self.old) + 12 ≤ 47 }
-        ensures after { shown self.new ≡ shown self.old ++ (44 ∷ signed_decimal column.now.number) }
-        ensures room { length (shown self.new) ≤ length (shown self.old) + 12 }
-    {
-        self.text.push(',');
-        self.push_number(column.number());
     }
 
     // The whole part of n halves, and .5 if n is odd.

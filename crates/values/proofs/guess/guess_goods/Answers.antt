@@ -1,10 +1,11 @@
-use Rattle.std.proofs.Common.{◌≡◌, [], ◌∷◌, ℕ, ℤ, ◌+◌, ◌*◌, Some, None, IsUtf8, decimal, refl, sym, ap, ◌∙◌, subst, arith, rules}
+use Rattle.std.proofs.Common.{◌≡◌, [], ◌∷◌, List, ℕ, ℤ, ◌+◌, ◌*◌, Some, None, refl, sym, ap, ◌∙◌, subst, arith, rules}
 use Rattle.std.proofs.lemmas.Int.{ints}
 use Rattle.values.specs.Columns.{Held, Readable}
+use Rattle.values.specs.Guesses.{list_of}
 use Rattle.values.specs.Values.{goods_columns}
 use Rattle.values.specs.Guessing.{none_some, same_some, utf8_goods, no_text, same_text}
 use Rattle.values.proofs.Machine.{kept, kept_is, same_four}
-use Rattle.values.specs.Readings.{made_found, made_ranged}
+use Rattle.values.specs.Readings.{made_found, made_ranged, goods_found}
 use Rattle.values.specs.Together.{same_columns_goods}
 use Rattle.values.proofs.guess.guess_goods.Goals as goal
 
@@ -19,8 +20,7 @@ returns-in_err-wood c =
     rw c.from_residual-in_err-wood.ensures
     record {
       found = λ v r e.
-          absurd (none_some _ _ c.in_err-wood.was
-          (c.four.ensures.found (v.wood.number, v.stone.number, v.ore.number, v.cloth.number) r (t ∙ e)));
+          absurd (none_some _ _ c.in_err-wood.was (goods_found _ _ c.four.ensures v.columns.numbers v.columns.full r (t ∙ e)).2);
       ranged = tt;
     }
 
@@ -37,9 +37,8 @@ returns c =
     let d : Readable cs = (omega (arith, ints), (omega (arith, ints), (omega (arith, ints), (omega (arith, ints), tt)))) in
     record {
       found = λ v r e.
-          let f = c.four.ensures.found (v.wood.number, v.stone.number, v.ore.number, v.cloth.number) r (t ∙ e) in
-          let q = same_some _ _ _ c.in_ok-wood.was f in
+          let f = goods_found _ _ c.four.ensures v.columns.numbers v.columns.full r (t ∙ e) in
           made_found goods_columns same_columns_goods cs _ c.new.ensures h v
-          (sym (same_four _ _ _ _ _ _ _ _ (wood ∙ ap (λ p. p.0) q) (stone ∙ ap (λ p. p.1) q) (ore ∙ ap (λ p. p.2) q) (cloth ∙ ap (λ p. p.3) q)));
+          (sym (same_four _ _ _ _ _ _ _ _ wood stone ore cloth ∙ ap list_of (same_some _ _ _ c.in_ok-wood.was f.2) ∙ f.1));
       ranged = made_ranged goods_columns cs _ c.new.ensures d;
     }
