@@ -58,10 +58,8 @@ pub(crate) fn put_owners<K: Kind>(print: &mut [u8], at: usize, owners: &[OwnerTo
     ensures bound { result ≤ at + 490 }
 {
     let mut end = at;
-    let mut number = 1;
-    for owner in owners {
-        end = put_owner(print, end, owners, number, owner);
-        number += 1;
+    for (i, owner) in owners.iter().enumerate() {
+        end = put_owner(print, end, owners, i as u32 + 1, owner);
     }
     end
 }

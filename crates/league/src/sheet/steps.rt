@@ -1,5 +1,5 @@
-ghost use Rattle.std.specs.Prelude.{◌≡◌, ◌≤◌, length, Decides};
-ghost use Rattle.league.specs.Refusals.{Begins, GoesOn, Prints, Step};
+ghost use Rattle.std.specs.Prelude.{◌≡◌, ◌≤◌, length};
+ghost use Rattle.league.specs.Refusals.{Begins, GoesOn, Prints, SameSize, Step};
 ghost use Rattle.league.specs.Sheets.{foot_text, head_text, owners_text, sheet_text};
 ghost use Rattle.league.specs.Writing.{Wrote};
 
@@ -22,11 +22,15 @@ pub fn begin(print: &[u8]) -> Result<Begun, SheetRefusal>
     Ok(Begun { size: print.len() })
 }
 
-// Whether these are as many bytes as the sheet began with.
-fn same_size(size: usize, print: &[u8]) -> bool
-    ensures { Decides result (length print.now ≡ size) }
+// The sheet, if these are as many bytes as it began with.
+fn same_size<S>(size: usize, sheet: S, print: &[u8]) -> Result<S, (S, SheetRefusal)>
+    ensures { SameSize size (length print.now) sheet result }
 {
-    print.len() == size
+    if print.len() == size {
+        Ok(sheet)
+    } else {
+        Err((sheet, SheetRefusal::WrongSize))
+    }
 }
 
 impl Begun {
@@ -38,12 +42,10 @@ impl Begun {
     ) -> Result<Headed, (Begun, SheetRefusal)>
         ensures { Step self (GoesOn self.size (length print.old)) print.old print.new (λ s. (s.size ≡ self.size) × Wrote print.old 0 (head_text K.capital standing) s.len print.new) result }
     {
-        if !same_size(self.size, print) {
-            return Err((self, SheetRefusal::WrongSize));
-        }
+        let sheet = same_size(self.size, self, print)?;
         let len = put_head(print, K::letter(), standing);
         Ok(Headed {
-            size: self.size,
+            size: sheet.size,
             len,
         })
     }
@@ -58,12 +60,10 @@ impl Headed {
     ) -> Result<Listed, (Headed, SheetRefusal)>
         ensures { Step self (GoesOn self.size (length print.old)) print.old print.new (λ s. (s.size ≡ self.size) × Wrote print.old self.len (owners_text K.columns K.weigh K.text owners.now) s.len print.new) result }
     {
-        if !same_size(self.size, print) {
-            return Err((self, SheetRefusal::WrongSize));
-        }
-        let len = put_owners(print, self.len, owners);
+        let sheet = same_size(self.size, self, print)?;
+        let len = put_owners(print, sheet.len, owners);
         Ok(Listed {
-            size: self.size,
+            size: sheet.size,
             len,
         })
     }
@@ -74,11 +74,9 @@ impl Listed {
     pub fn foot(self, print: &mut [u8]) -> Result<Footed, (Listed, SheetRefusal)>
         ensures { Step self (GoesOn self.size (length print.old)) print.old print.new (λ s. Wrote print.old self.len foot_text s.written print.new) result }
     {
-        if !same_size(self.size, print) {
-            return Err((self, SheetRefusal::WrongSize));
-        }
-        let len = put_foot(print, self.len);
-        Ok(Footed { written: len })
+        let sheet = same_size(self.size, self, print)?;
+        let written = put_foot(print, sheet.len);
+        Ok(Footed { written })
     }
 }
 
@@ -100,17 +98,8 @@ pub fn print_sheet<K: Kind>(
 ) -> Result<usize, SheetRefusal>
     ensures { Prints print.old (sheet_text K.capital K.columns K.weigh K.text standing owners.now) print.new result }
 {
-    let begun = begin(print)?;
-    let headed = match begun.head::<K>(print, standing) {
-        Ok(headed) => headed,
-        Err(back) => return Err(back.1),
-    };
-    let listed = match headed.list(print, owners) {
-        Ok(listed) => listed,
-        Err(back) => return Err(back.1),
-    };
-    match listed.foot(print) {
-        Ok(footed) => Ok(footed.len()),
-        Err(back) => Err(back.1),
-    }
+    let headed = begin(print)?.head::<K>(print, standing)?;
+    let listed = headed.list(print, owners)?;
+    let footed = listed.foot(print)?;
+    Ok(footed.len())
 }

@@ -8,5 +8,5 @@ returns c =
     let stone = to_z-of_z w32 c.args.stone c.ranges.stone in
     let ore = to_z-of_z w32 c.args.ore c.ranges.ore in
     let cloth = to_z-of_z w32 c.args.cloth c.ranges.cloth in
-    let e = rw (wood, stone, ore, cloth) at c.new.ensures in
+    let e = simp (wood, stone, ore, cloth) at c.new.ensures in
     search rules
