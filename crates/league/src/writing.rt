@@ -4,6 +4,7 @@ ghost use Rattle.std.specs.Prelude.{[], ◌∷◌, ◌++◌, decimal};
 use values::text::Text;
 
 // Writes the text from at on, if there is room for it, and returns where it ends; otherwise returns at.
+// It answers no Option: that reply is public, and stays.
 pub fn put(print: &mut [u8], at: usize, text: &[u8]) -> usize
     ensures { Puts print.old at text.now result print.new }
 {
@@ -31,6 +32,8 @@ fn put_ended(print: &mut [u8], at: usize, text: &[u8], last: u8) -> usize
     let end = put(print, at, text);
     put(print, end, &[last])
 }
+
+// The four below are one line each over `put_ended`; with a parameter in place of their names a call would say less.
 
 // Writes a field that another follows, and a tab, if there is room for both.
 pub fn put_field(print: &mut [u8], at: usize, text: &[u8]) -> usize

@@ -33,6 +33,7 @@ impl<const N: usize> Columns<N> {
     pub(crate) fn new(numbers: [i32; N]) -> Option<Columns<N>>
         ensures { Made (λ c. c.numbers) numbers.entry result }
     {
+        // Not `then_some`: the ghost field wants the test before the value is made.
         if all_within(&numbers, HELD) {
             Some(Columns { numbers })
         } else {
@@ -68,6 +69,9 @@ impl<const N: usize> Columns<N> {
         self.numbers[place]
     }
 
+    // Sum and difference stay two: one function over the operation would need two `requires` on all
+    // pairs and a ghost function that each call picks.
+
     // The sum, column by column; absent if a column would leave the range.
     pub(crate) fn sum(&self, other: &Columns<N>) -> Option<Columns<N>>
         ensures { Made (λ c. c.numbers) (by_column ◌+ℤ◌ self.now.numbers other.now.numbers) result }
@@ -93,6 +97,7 @@ impl<const N: usize> Columns<N> {
         requires { N ≤ 4 }
         ensures { result ≡ total self.now.numbers }
     {
+        // A loop: the library's `sum` of signed numbers has no bound that proves.
         let mut total = 0;
         for z in &self.numbers {
             total += i64::from(*z);

@@ -4,7 +4,7 @@ ghost use Rattle.league.specs.Sheets.{foot_text, head_text, owners_text, sheet_t
 ghost use Rattle.league.specs.Writing.{Wrote};
 
 use super::fields::{put_foot, put_head, put_owners};
-use super::{Begun, Footed, Headed, Listed};
+use super::{Begun, Footed, Headed, Listed, Size};
 use crate::owner::OwnerTotal;
 use crate::refusal::SheetRefusal;
 use values::kind::Kind;
@@ -14,19 +14,21 @@ const FEWEST: usize = 512;
 
 // Begins a sheet in these bytes.
 pub fn begin(print: &[u8]) -> Result<Begun, SheetRefusal>
-    ensures { Begins (λ s. s.size) (length print.now) result }
+    ensures { Begins (λ s. s.size.bytes) (length print.now) result }
 {
     if print.len() < FEWEST {
         return Err(SheetRefusal::WrongSize);
     }
-    Ok(Begun { size: print.len() })
+    Ok(Begun {
+        size: Size { bytes: print.len() },
+    })
 }
 
 // The sheet, if these are as many bytes as it began with.
-fn same_size<S>(size: usize, sheet: S, print: &[u8]) -> Result<S, (S, SheetRefusal)>
-    ensures { SameSize size (length print.now) sheet result }
+fn same_size<S>(size: Size, sheet: S, print: &[u8]) -> Result<S, (S, SheetRefusal)>
+    ensures { SameSize size.bytes (length print.now) sheet result }
 {
-    if print.len() == size {
+    if print.len() == size.bytes {
         Ok(sheet)
     } else {
         Err((sheet, SheetRefusal::WrongSize))
@@ -40,7 +42,7 @@ impl Begun {
         print: &mut [u8],
         standing: u16,
     ) -> Result<Headed, (Begun, SheetRefusal)>
-        ensures { Step self (GoesOn self.size (length print.old)) print.old print.new (λ s. (s.size ≡ self.size) × Wrote print.old 0 (head_text K.capital standing) s.len print.new) result }
+        ensures { Step self (GoesOn self.size.bytes (length print.old)) print.old print.new (λ s. (s.size.bytes ≡ self.size.bytes) × Wrote print.old 0 (head_text K.capital standing) s.len print.new) result }
     {
         let sheet = same_size(self.size, self, print)?;
         let len = put_head(print, K::letter(), standing);
@@ -58,7 +60,7 @@ impl Headed {
         print: &mut [u8],
         owners: &[OwnerTotal<K>; 7],
     ) -> Result<Listed, (Headed, SheetRefusal)>
-        ensures { Step self (GoesOn self.size (length print.old)) print.old print.new (λ s. (s.size ≡ self.size) × Wrote print.old self.len (owners_text K.columns K.weigh K.text owners.now) s.len print.new) result }
+        ensures { Step self (GoesOn self.size.bytes (length print.old)) print.old print.new (λ s. (s.size.bytes ≡ self.size.bytes) × Wrote print.old self.len (owners_text K.columns K.weigh K.text owners.now) s.len print.new) result }
     {
         let sheet = same_size(self.size, self, print)?;
         let len = put_owners(print, sheet.len, owners);
@@ -72,7 +74,7 @@ impl Headed {
 impl Listed {
     // Writes the foot: Z and 7.
     pub fn foot(self, print: &mut [u8]) -> Result<Footed, (Listed, SheetRefusal)>
-        ensures { Step self (GoesOn self.size (length print.old)) print.old print.new (λ s. Wrote print.old self.len foot_text s.written print.new) result }
+        ensures { Step self (GoesOn self.size.bytes (length print.old)) print.old print.new (λ s. Wrote print.old self.len foot_text s.written print.new) result }
     {
         let sheet = same_size(self.size, self, print)?;
         let written = put_foot(print, sheet.len);

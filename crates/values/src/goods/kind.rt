@@ -21,6 +21,7 @@ impl Goods {
     }
 }
 
+// Points and goods share `Columns`; what is left in their two impls is a line for each call.
 impl Kind for Goods {
     ghost capital = { 71 };
 
