@@ -4,7 +4,7 @@ ghost use Rattle.std.specs.Prelude.{[], ◌∷◌, ◌++◌, decimal};
 use values::text::Text;
 
 // Writes the text from at on, if there is room for it, and returns where it ends; otherwise returns at.
-// It answers no Option: that reply is public, and stays.
+// It answers no Option, and takes print and at as two: so it is public, and so it stays.
 pub fn put(print: &mut [u8], at: usize, text: &[u8]) -> usize
     ensures { Puts print.old at text.now result print.new }
 {

@@ -109,7 +109,11 @@ fn headed_at_last(
     let Err((begun, refusal)) = begun.head::<Points>(&mut all[0..513], 4) else {
         return Ok(None);
     };
-    println!(rt; "head refused {}, {} left", refusal.number(), left(&all[..]))?;
+    println!(rt;
+        "head refused {}, {} left",
+        refusal.number(),
+        left(&all[..])
+    )?;
     Ok(begun.head::<Points>(&mut all[0..512], 4).ok())
 }
 
@@ -123,7 +127,11 @@ fn listed_at_last(
     let Err((headed, refusal)) = headed.list(&mut all[0..600], owners) else {
         return Ok(None);
     };
-    println!(rt; "list refused {}, {} left", refusal.number(), left(&all[..]))?;
+    println!(rt;
+        "list refused {}, {} left",
+        refusal.number(),
+        left(&all[..])
+    )?;
     Ok(headed.list(&mut all[0..512], owners).ok())
 }
 
@@ -136,7 +144,11 @@ fn footed_at_last(
     let Err((listed, refusal)) = listed.foot(&mut all[0..100]) else {
         return Ok(None);
     };
-    println!(rt; "foot refused {}, {} left", refusal.number(), left(&all[..]))?;
+    println!(rt;
+        "foot refused {}, {} left",
+        refusal.number(),
+        left(&all[..])
+    )?;
     Ok(listed.foot(&mut all[0..512]).ok())
 }
 

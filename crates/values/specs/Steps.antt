@@ -4,6 +4,7 @@ use Rattle.std.proofs.Common.{sym, ap, ap₂, ◌∙◌, append_assoc, add-one, 
 use Rattle.std.proofs.lemmas.Int.{ints}
 use Rattle.values.specs.Columns.{Within, Held, column, total, by_column}
 use Rattle.values.specs.Texts.{parted}
+use Rattle.values.specs.Numbers.{then_part}
 
 total_next : (cs : List ℤ) (i : ℕ) → i < length cs → total (take (suc i) cs) ≡ total (take i cs) +ℤ column cs i
 total_next [] i h = absurd (omega arith)
@@ -49,8 +50,7 @@ by_place f (x ∷ xs) (y ∷ ys) [] l m h = absurd (omega arith)
 pub pushed_more : (text : ℤ → List ℕ) (cs : List ℤ) (i : ℕ) (s t u : List ℕ) (z : ℤ) → i < length cs → 0 < i → z ≡ column cs i
     → s ≡ parted text (take i cs) → t ≡ s ++ (44 ∷ []) → u ≡ t ++ text z → u ≡ parted text (take (i + 1) cs)
 pushed_more text cs i s t u z l k e p q r =
-    r ∙ ap₂ (λ (a : List ℕ) (b : ℤ). a ++ text b) q e ∙ append_assoc s (44 ∷ []) (text (column cs i)) ∙ ap (λ (a : List ℕ). a ++ (44 ∷ text (column cs i))) p
-    ∙ sym (parted_more text cs i l k)
+    then_part u t s (44 ∷ []) (text z) q r ∙ ap₂ (λ (a : List ℕ) (b : ℤ). a ++ (44 ∷ text b)) p e ∙ sym (parted_more text cs i l k)
 
 pub pushed_one : (text : ℤ → List ℕ) (cs : List ℤ) (i : ℕ) (s t u : List ℕ) (z : ℤ) → i < length cs → i ≤ 0 → z ≡ column cs i
     → s ≡ parted text (take i cs) → t ≡ s → u ≡ t ++ text z → u ≡ parted text (take (i + 1) cs)

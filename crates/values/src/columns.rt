@@ -69,27 +69,30 @@ impl<const N: usize> Columns<N> {
         self.numbers[place]
     }
 
-    // Sum and difference stay two: one function over the operation would need two `requires` on all
-    // pairs and a ghost function that each call picks.
+    // Two, not one over the operation: that needs two `requires` on all pairs and a ghost function picked at each call.
 
     // The sum, column by column; absent if a column would leave the range.
     pub(crate) fn sum(&self, other: &Columns<N>) -> Option<Columns<N>>
         ensures { Made (λ c. c.numbers) (by_column ◌+ℤ◌ self.now.numbers other.now.numbers) result }
     {
-        Columns::new(array::from_fn(|i: usize| -> i32
-            requires { i < N }
-            ensures { result ≡ column self.entry.now.numbers i +ℤ column other.entry.now.numbers i }
-        { self.at(i) + other.at(i) }))
+        Columns::new(array::from_fn(
+            |i: usize| -> i32
+                requires { i < N }
+                ensures { result ≡ column self.entry.now.numbers i +ℤ column other.entry.now.numbers i }
+            { self.at(i) + other.at(i) },
+        ))
     }
 
     // The difference, column by column; absent if a column would leave the range.
     pub(crate) fn difference(&self, other: &Columns<N>) -> Option<Columns<N>>
         ensures { Made (λ c. c.numbers) (by_column ◌-ℤ◌ self.now.numbers other.now.numbers) result }
     {
-        Columns::new(array::from_fn(|i: usize| -> i32
-            requires { i < N }
-            ensures { result ≡ column self.entry.now.numbers i -ℤ column other.entry.now.numbers i }
-        { self.at(i) - other.at(i) }))
+        Columns::new(array::from_fn(
+            |i: usize| -> i32
+                requires { i < N }
+                ensures { result ≡ column self.entry.now.numbers i -ℤ column other.entry.now.numbers i }
+            { self.at(i) - other.at(i) },
+        ))
     }
 
     // The sum of the columns, of which there are at most four.
@@ -97,7 +100,6 @@ impl<const N: usize> Columns<N> {
         requires { N ≤ 4 }
         ensures { result ≡ total self.now.numbers }
     {
-        // A loop: the library's `sum` of signed numbers has no bound that proves.
         let mut total = 0;
         for z in &self.numbers {
             total += i64::from(*z);

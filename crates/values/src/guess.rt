@@ -42,7 +42,9 @@ fn signed_halves(text: &str) -> Option<i32>
 fn column(text: &str) -> Option<i32>
     ensures { Guess signed_decimal (Within 1000000) text.now result }
 {
-    text.parse::<i32>().ok().filter(|z| z.unsigned_abs() <= READABLE)
+    text.parse::<i32>()
+        .ok()
+        .filter(|z| z.unsigned_abs() <= READABLE)
 }
 
 // The column before the first comma, and what follows the comma.

@@ -1,4 +1,4 @@
-use Rattle.std.proofs.Common.{◌≡◌, [], ◌∷◌, ℕ, ℤ, ◌+◌, ◌*◌, Some, None, IsUtf8, decimal, refl, sym, ap, ◌∙◌, subst, arith, rules}
+use Rattle.std.proofs.Common.{Some, sym, ap, ◌∙◌, arith}
 use Rattle.std.proofs.lemmas.Int.{ints}
 use Rattle.values.specs.Guessing.{no_first, bad_first, some_first}
 use Rattle.values.proofs.Machine.{kept_is}

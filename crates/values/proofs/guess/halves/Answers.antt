@@ -1,4 +1,4 @@
-use Rattle.std.proofs.Common.{◌≡◌, [], ◌∷◌, ℕ, ℤ, ◌+◌, ◌*◌, Some, None, IsUtf8, decimal, refl, sym, ap, ◌∙◌, subst, arith, rules}
+use Rattle.std.proofs.Common.{rules}
 use Rattle.values.specs.Guessing.{point_guess, even_guess}
 use Rattle.values.proofs.guess.halves.Goals as goal
 

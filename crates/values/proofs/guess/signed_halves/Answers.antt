@@ -1,4 +1,4 @@
-use Rattle.std.proofs.Common.{◌≡◌, [], ◌∷◌, ℕ, ℤ, ◌+◌, ◌*◌, Some, None, IsUtf8, decimal, refl, sym, ap, ◌∙◌, subst, arith, rules}
+use Rattle.std.proofs.Common.{Some, arith, rules}
 use Rattle.std.proofs.lemmas.Str.Pattern.{strip_prefix_char}
 use Rattle.values.specs.Guessing.{minus_guess}
 use Rattle.values.proofs.guess.signed_halves.Goals as goal

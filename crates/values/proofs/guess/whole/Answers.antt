@@ -1,4 +1,4 @@
-use Rattle.std.proofs.Common.{◌≡◌, [], ◌∷◌, ℕ, ℤ, ◌+◌, ◌*◌, Some, None, IsUtf8, decimal, refl, sym, ap, ◌∙◌, subst, arith, rules}
+use Rattle.std.proofs.Common.{arith, rules}
 use Rattle.values.specs.Guessing.{whole_guess}
 use Rattle.values.proofs.guess.whole.Goals as goal
 

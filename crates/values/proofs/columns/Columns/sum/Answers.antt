@@ -1,4 +1,4 @@
-use Rattle.std.proofs.Common.{◌≡◌, [], ◌∷◌, ◌++◌, ◌<◌, ◌≤◌, length, List, ℕ, ℤ, pos, ◌+ℤ◌, ◌-ℤ◌, ◌+◌, ◌*◌, Some, None, refl, sym, ap, ◌∙◌, subst, arith, rules, w32, w64, to_z, of_z}
+use Rattle.std.proofs.Common.{ℕ, ◌+ℤ◌, arith, rules}
 use Rattle.values.specs.Columns.{column}
 use Rattle.values.specs.Steps.{by_place}
 use Rattle.values.proofs.Filled.{filled}

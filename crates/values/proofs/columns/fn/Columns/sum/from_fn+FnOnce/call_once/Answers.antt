@@ -1,5 +1,5 @@
-use Rattle.std.proofs.Common.{◌≡◌, [], ◌∷◌, ◌++◌, ◌<◌, ◌≤◌, length, List, ℕ, ℤ, pos, ◌+ℤ◌, ◌-ℤ◌, ◌+◌, ◌*◌, Some, None, refl, sym, ap, ◌∙◌, subst, arith, rules, w32, w64, to_z, of_z}
-use Rattle.std.proofs.lemmas.Int.{ints, to_z-of_z}
+use Rattle.std.proofs.Common.{◌∙◌, w32}
+use Rattle.std.proofs.lemmas.Int.{to_z-of_z}
 use Rattle.values.proofs.columns.fn.Columns.sum.from_fn+FnOnce.call_once.Goals as goal
 
 pub returns : goal.returns
