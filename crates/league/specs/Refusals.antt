@@ -20,6 +20,11 @@ abbrev pub Begins : {A : Type 0} → (A → ℕ) → ℕ → Result A SheetRefus
 Begins size bytes (Ok sheet) = Enough bytes × (size sheet ≡ bytes)
 Begins size bytes (Err e) = (Enough bytes → ⊥) × (refusal_number e ≡ 40)
 
+-- what is answered where bytes are as many as a sheet began with, or not
+abbrev pub SameSize : {B : Type 0} → ℕ → ℕ → B → Result B (B × SheetRefusal) → Type 0
+SameSize size bytes sheet (Ok same) = (bytes ≡ size) × (same ≡ sheet)
+SameSize size bytes sheet (Err back) = (bytes ≡ size → ⊥) × (back.0 ≡ sheet) × (refusal_number back.1 ≡ 40)
+
 -- what a step answers: refused exactly where the sheet cannot go on, and then the sheet comes back as it was and no byte is changed
 abbrev pub Step : {A B : Type 0} → B → Type 0 → List ℕ → List ℕ → (A → Type 0) → Result A (B × SheetRefusal) → Type 0
 Step sheet goes before after Done (Ok next) = goes × Done next

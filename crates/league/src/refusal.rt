@@ -1,11 +1,11 @@
 ghost use Rattle.league.specs.Refusals.{refusal_number};
 ghost use Rattle.std.specs.Prelude.{◌≡◌};
 
-// Why a step of a sheet is refused.
-#[derive(Clone, Copy)]
+// Why a step of a sheet is refused, with the refusal's number.
+#[derive(Clone, Copy, Debug, PartialEq, Eq)]
 pub enum SheetRefusal {
     // The bytes handed in are too few, or not as many as the sheet began with.
-    WrongSize,
+    WrongSize = 40,
 }
 
 impl SheetRefusal {
@@ -13,8 +13,15 @@ impl SheetRefusal {
     pub fn number(&self) -> u32
         ensures { result ≡ refusal_number self.now }
     {
-        match self {
-            SheetRefusal::WrongSize => 40,
-        }
+        *self as u32
+    }
+}
+
+// Where no one goes on with the step that comes back, the refusal alone is told.
+impl<S: Drop> From<(S, SheetRefusal)> for SheetRefusal {
+    ghost from_gives = { λ back refusal. refusal ≡ back.1 };
+
+    fn from(back: (S, SheetRefusal)) -> SheetRefusal {
+        back.1
     }
 }

@@ -24,11 +24,8 @@ pub fn place_among<K: Kind>(owners: &[OwnerTotal<K>; 7], weight: i64) -> u32
     ensures is { result ≡ place (weights_of K.columns K.weigh owners.now) weight }
     ensures few { result ≤ 8 }
 {
-    let mut place = 1;
-    for other in owners {
-        if outweighs(other, weight) {
-            place += 1;
-        }
-    }
-    place
+    1 + owners
+        .iter()
+        .filter(|other| outweighs(other, weight))
+        .count() as u32
 }

@@ -5,29 +5,34 @@ pub mod steps;
 
 // A sheet is begun, headed, listed and footed, in bytes that are lent to each step.
 // It holds how many bytes it began with, and how many are written.
+// Four types, not one over the most that is written: the compiler then names the state where a step is misused.
+
+// How many bytes a sheet began with: enough for any.
+#[derive(Clone, Copy)]
+struct Size {
+    bytes: usize,
+    ghost enough: { 512 ≤ bytes },
+}
 
 // Begun: nothing is written.
 #[derive(Drop)]
 pub struct Begun {
-    size: usize,
-    ghost enough: { 512 ≤ size },
+    size: Size,
 }
 
 // Headed: the head is written.
 #[derive(Drop)]
 pub struct Headed {
-    size: usize,
+    size: Size,
     len: usize,
-    ghost enough: { 512 ≤ size },
     ghost bound: { len ≤ 10 },
 }
 
 // Listed: the owners are written too.
 #[derive(Drop)]
 pub struct Listed {
-    size: usize,
+    size: Size,
     len: usize,
-    ghost enough: { 512 ≤ size },
     ghost bound: { len ≤ 500 },
 }
 

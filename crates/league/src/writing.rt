@@ -4,6 +4,7 @@ ghost use Rattle.std.specs.Prelude.{[], ◌∷◌, ◌++◌, decimal};
 use values::text::Text;
 
 // Writes the text from at on, if there is room for it, and returns where it ends; otherwise returns at.
+// It answers no Option, and takes print and at as two: so it is public, and so it stays.
 pub fn put(print: &mut [u8], at: usize, text: &[u8]) -> usize
     ensures { Puts print.old at text.now result print.new }
 {
@@ -32,6 +33,8 @@ fn put_ended(print: &mut [u8], at: usize, text: &[u8], last: u8) -> usize
     put(print, end, &[last])
 }
 
+// The four below are one line each over `put_ended`; with a parameter in place of their names a call would say less.
+
 // Writes a field that another follows, and a tab, if there is room for both.
 pub fn put_field(print: &mut [u8], at: usize, text: &[u8]) -> usize
     ensures { Puts print.old at (text.now ++ (9 ∷ [])) result print.new }
@@ -50,12 +53,12 @@ pub fn put_last(print: &mut [u8], at: usize, text: &[u8]) -> usize
 pub fn put_number(print: &mut [u8], at: usize, number: u32) -> usize
     ensures { Puts print.old at (decimal number ++ (9 ∷ [])) result print.new }
 {
-    put_field(print, at, Text::from_u32(number).as_slice())
+    put_field(print, at, Text::from(number).as_slice())
 }
 
 // Writes a number in decimal as the last field of a line.
 pub fn put_last_number(print: &mut [u8], at: usize, number: u32) -> usize
     ensures { Puts print.old at (decimal number ++ (10 ∷ [])) result print.new }
 {
-    put_last(print, at, Text::from_u32(number).as_slice())
+    put_last(print, at, Text::from(number).as_slice())
 }

@@ -13,19 +13,13 @@ use values::points::Points;
 
 // The points of so many halves; 0 out of range.
 fn points(links: u16, halves: i32) -> OwnerTotal<Points> {
-    let total = match Points::new(halves) {
-        Some(total) => total,
-        None => Points::zero(),
-    };
+    let total = Points::new(halves).unwrap_or_else(Points::zero);
     OwnerTotal { links, total }
 }
 
 // The goods of these columns; none out of range.
 fn goods(links: u16, wood: i32, stone: i32, ore: i32, cloth: i32) -> OwnerTotal<Goods> {
-    let total = match Goods::new(wood, stone, ore, cloth) {
-        Some(total) => total,
-        None => Goods::zero(),
-    };
+    let total = Goods::new(wood, stone, ore, cloth).unwrap_or_else(Goods::zero);
     OwnerTotal { links, total }
 }
 
@@ -53,13 +47,7 @@ fn show<K: Kind>(
 
 // How many bytes are still as they were.
 fn left(print: &[u8]) -> usize {
-    let mut n = 0;
-    for byte in print {
-        if *byte == b'#' {
-            n += 1;
-        }
-    }
-    n
+    print.iter().filter(|byte| **byte == b'#').count()
 }
 
 fn sheets_of_points(rt: &HostRuntime) -> io::Result<()> {
@@ -114,24 +102,19 @@ fn headed_at_last(
     all: &mut [u8; 600],
     begun: Begun,
 ) -> io::Result<Option<Headed>> {
-    let begun = match begun.head::<Points>(&mut all[0..511], 4) {
-        Ok(_) => return Ok(None),
-        Err(back) => {
-            println!(rt; "head refused {}", back.1.number())?;
-            back.0
-        }
+    let Err((begun, refusal)) = begun.head::<Points>(&mut all[0..511], 4) else {
+        return Ok(None);
     };
-    let begun = match begun.head::<Points>(&mut all[0..513], 4) {
-        Ok(_) => return Ok(None),
-        Err(back) => {
-            println!(rt; "head refused {}, {} left", back.1.number(), left(&all[..]))?;
-            back.0
-        }
+    println!(rt; "head refused {}", refusal.number())?;
+    let Err((begun, refusal)) = begun.head::<Points>(&mut all[0..513], 4) else {
+        return Ok(None);
     };
-    match begun.head::<Points>(&mut all[0..512], 4) {
-        Ok(headed) => Ok(Some(headed)),
-        Err(_) => Ok(None),
-    }
+    println!(rt;
+        "head refused {}, {} left",
+        refusal.number(),
+        left(&all[..])
+    )?;
+    Ok(begun.head::<Points>(&mut all[0..512], 4).ok())
 }
 
 // Lists a sheet, after it was refused in another number of bytes.
@@ -141,17 +124,15 @@ fn listed_at_last(
     headed: Headed,
     owners: &[OwnerTotal<Points>; 7],
 ) -> io::Result<Option<Listed>> {
-    let headed = match headed.list(&mut all[0..600], owners) {
-        Ok(_) => return Ok(None),
-        Err(back) => {
-            println!(rt; "list refused {}, {} left", back.1.number(), left(&all[..]))?;
-            back.0
-        }
+    let Err((headed, refusal)) = headed.list(&mut all[0..600], owners) else {
+        return Ok(None);
     };
-    match headed.list(&mut all[0..512], owners) {
-        Ok(listed) => Ok(Some(listed)),
-        Err(_) => Ok(None),
-    }
+    println!(rt;
+        "list refused {}, {} left",
+        refusal.number(),
+        left(&all[..])
+    )?;
+    Ok(headed.list(&mut all[0..512], owners).ok())
 }
 
 // Foots a sheet, after it was refused in another number of bytes.
@@ -160,17 +141,15 @@ fn footed_at_last(
     all: &mut [u8; 600],
     listed: Listed,
 ) -> io::Result<Option<Footed>> {
-    let listed = match listed.foot(&mut all[0..100]) {
-        Ok(_) => return Ok(None),
-        Err(back) => {
-            println!(rt; "foot refused {}, {} left", back.1.number(), left(&all[..]))?;
-            back.0
-        }
+    let Err((listed, refusal)) = listed.foot(&mut all[0..100]) else {
+        return Ok(None);
     };
-    match listed.foot(&mut all[0..512]) {
-        Ok(footed) => Ok(Some(footed)),
-        Err(_) => Ok(None),
-    }
+    println!(rt;
+        "foot refused {}, {} left",
+        refusal.number(),
+        left(&all[..])
+    )?;
+    Ok(listed.foot(&mut all[0..512]).ok())
 }
 
 // Takes a sheet of 512 bytes through its steps, each refused first.

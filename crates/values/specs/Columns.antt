@@ -1,6 +1,7 @@
 -- Columns of whole numbers: their ranges, their sum, and two values taken column by column. Assumes nothing.
-use Rattle.std.specs.Prelude.{◌≡◌, ℕ, ◌≤◌, List, [], ◌∷◌, ℤ, pos, ◌+ℤ◌, Option, MatchOption, unsigned_abs}
-use Rattle.std.specs.List.{AllByRecursion}
+use Rattle.std.specs.Prelude.{◌≡◌, ℕ, ◌≤◌, List, [], ◌∷◌, ℤ, pos, ◌+ℤ◌, Option, MatchOption, slice_index_or, unsigned_abs}
+use Rattle.std.specs.List.{AllByRecursion, AllByRecursion-prop}
+use Rattle.std.specs.Coded.{le_prop}
 
 -- a number within ±most
 abbrev pub Within : ℕ → ℤ → Type 0
@@ -9,6 +10,9 @@ Within most z = unsigned_abs z ≤ most
 -- what the columns of every value are
 abbrev pub Held : List ℤ → Type 0
 Held cs = AllByRecursion (Within 1000000000) cs
+
+pub Held-prop : (cs : List ℤ) → IsProp (Held cs)
+Held-prop cs = AllByRecursion-prop (Within 1000000000) (λ z. le_prop) cs
 
 -- what the columns of a value that fits are
 abbrev pub Fitting : List ℤ → Type 0
@@ -22,14 +26,14 @@ abbrev pub total : List ℤ → ℤ
 total [] = pos 0
 total (z ∷ zs) = z +ℤ total zs
 
+-- the column at this place
+abbrev pub column : List ℤ → ℕ → ℤ
+column cs i = slice_index_or cs i (pos 0)
+
 abbrev pub by_column : (ℤ → ℤ → ℤ) → List ℤ → List ℤ → List ℤ
 by_column f [] ys = []
 by_column f (x ∷ xs) [] = []
 by_column f (x ∷ xs) (y ∷ ys) = f x y ∷ by_column f xs ys
-
--- r is the column z, absent exactly if z leaves ±1,000,000,000
-abbrev pub MadeOne : {C : Type 0} → (C → ℤ) → ℤ → Option C → Type 0
-MadeOne number z r = MatchOption r (Within 1000000000 z → ⊥) (λ c. number c ≡ z)
 
 -- r is the value of these columns, absent exactly if one of them leaves ±1,000,000,000
 abbrev pub Made : {V : Type 0} → (V → List ℤ) → List ℤ → Option V → Type 0

@@ -1,7 +1,8 @@
 -- Reading a number from a text that may be one's own. Assumes nothing.
-use Rattle.std.specs.Prelude.{◌≡◌, ℕ, zero, suc, ◌+◌, ◌*◌, ◌/◌, ◌%◌, ◌^◌, ◌<◌, ◌≤◌, List, [], ◌∷◌, ◌++◌, length, ℤ, pos, negsuc, neg_ℤ, IfSome, Some, None, Ok, Err, IsUtf8, IsAscii, decimal, Option, Result, ◌≢◌, slice_index, unsigned_abs, refl}
+use Rattle.std.specs.Prelude.{◌≡◌, ℕ, zero, suc, ◌+◌, ◌*◌, ◌/◌, ◌%◌, ◌^◌, ◌<◌, ◌≤◌, List, [], ◌∷◌, ◌++◌, length, ℤ, pos, negsuc, neg_ℤ, IfSome, Some, None, Ok, Err, MatchResult, IsUtf8, IsAscii, decimal, Option, Result, ◌≢◌, slice_index, unsigned_abs, refl}
 use Rattle.std.proofs.Common.{sym, ◌∙◌, ap, subst, ⊎_elim, arith, length-append}
 use Rattle.std.specs.Borrow.{Bor}
+use Rattle.std.specs.Result.{result_ok}
 use Rattle.std.specs.Str.Parse.{ParsesUnsigned, ParsesSigned, AllDigits, digits_value}
 use Rattle.std.specs.Int.{IsInRange, w32}
 use Rattle.std.specs.Fmt.{signed_decimal}
@@ -20,12 +21,6 @@ use Rattle.values.specs.Numbers.{halves_even, halves_odd, mag_small}
 
 pub none_some : {X : Type 0} (o : Option X) (x : X) → o ≡ None → o ≢ Some x
 none_some o x p q = let z : ◌≡◌ {A = ℕ} 0 1 = cc in omega arith
-
-pub err_ok : {X E : Type 0} (o : Result X E) (x : X) (e : E) → o ≡ Err e → o ≢ Ok x
-err_ok o x e p q = let z : ◌≡◌ {A = ℕ} 0 1 = cc in omega arith
-
-pub same_ok : {X E : Type 0} (r : Result X E) (x y : X) → r ≡ Ok x → r ≡ Ok y → x ≡ y
-same_ok r x y p q = cc
 
 pub same_some : {X : Type 0} (o : Option X) (x y : X) → o ≡ Some x → o ≡ Some y → x ≡ y
 same_some o x y p q = cc
@@ -100,14 +95,6 @@ minus_guess bs f w o s h k r = record { found = found; ranged = r }
     found (pos n) l e = absurd (digit_first n (omega arith) (ap (λ v. slice_index v 0) (sym e ∙ s)))
     found (negsuc n) l e = let t : f ≡ halves_text (suc n) = cc in k (suc n) (h.found (suc n) l t)
 
-pub plain_guess : (bs : List ℕ) (w : Option ℕ) (o : Option ℤ) → ((rest : List ℕ) → bs ≢ 45 ∷ rest) → Guess halves_text (λ n. n ≤ 1000000) bs w
-    → ((m : ℕ) → w ≡ Some m → o ≡ Some (pos m)) → IfSome o (Within 1000000) → Guess signed_halves_text (Within 1000000) bs o
-plain_guess bs w o s h k r = record { found = found; ranged = r }
-  where
-    found : (z : ℤ) → Within 1000000 z → bs ≡ signed_halves_text z → o ≡ Some z
-    found (pos n) l e = k n (h.found n l e)
-    found (negsuc n) l e = absurd (s (halves_text (suc n)) e)
-
 -- a column, by what `parse` read
 pub column_guess : {E : Type 0} (bs : List ℕ) (r : Result ℤ E) (o : Option ℤ) → ParsesSigned w32 10 bs r
     → ((z : ℤ) → Within 1000000 z → r ≡ Ok z → o ≡ Some z) → IfSome o (Within 1000000) → Guess signed_decimal (Within 1000000) bs o
@@ -167,3 +154,14 @@ utf8_points cs r =
 
 pub utf8_goods : (cs : List ℤ) → Readable cs → IsUtf8 (goods_text cs)
 utf8_goods cs r = IsUtf8-from_ascii (goods_text cs) (ascii_parted signed_decimal (λ z h. IsAscii-signed z (mag_small z (omega arith))) cs r)
+
+-- bytes that are read as a text, and bytes that are none
+pub same_text : {E : Type 0} (Q : E → Type 0) (bs : List ℕ) (r : Result (Bor (List ℕ)) E) (t : Bor (List ℕ)) → MatchResult r (λ s. (s.now ≡ bs) × IsUtf8 bs) Q
+    → Some t ≡ result_ok r → t.now ≡ bs
+same_text Q bs (Ok s) t h e = let q : t ≡ s = cc in ap (λ (x : Bor (List ℕ)). x.now) q ∙ h.0
+same_text Q bs (Err d) t h e = let z : ◌≡◌ {A = ℕ} 0 1 = cc in absurd (omega arith)
+
+pub no_text : {X E : Type 0} (P : Bor (List ℕ) → Type 0) (Q : E → Type 0) (text : X → List ℕ) (Ranges : X → Type 0) (bs : List ℕ) (r : Result (Bor (List ℕ)) E)
+    → MatchResult r P (λ e. (IsUtf8 bs → ⊥) × Q e) → None ≡ result_ok r → ((x : X) → Ranges x → IsUtf8 (text x)) → Guess text Ranges bs None
+no_text P Q text Ranges bs (Ok s) h e u = let z : ◌≡◌ {A = ℕ} 0 1 = cc in absurd (omega arith)
+no_text P Q text Ranges bs (Err d) h e u = record { found = λ x l q. absurd (h.0 (subst IsUtf8 (sym q) (u x l))); ranged = tt }

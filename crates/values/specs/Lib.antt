@@ -11,3 +11,4 @@ pub mod Numbers
 pub mod Together
 pub mod Decoding
 pub mod Guessing
+pub mod Steps

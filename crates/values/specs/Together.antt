@@ -1,16 +1,18 @@
 -- Writing and reading together, and texts that no value writes. Assumes nothing.
-use Rattle.std.specs.Prelude.{◌≡◌, ℕ, Bool, true, false, not, ◌&&◌, List, [], ◌∷◌, ℤ, pos, negsuc, IfSome, Some, None, Option, ◌==◌, refl}
+use Rattle.std.specs.Prelude.{◌≡◌, ℕ, Bool, true, false, not, ◌&&◌, List, [], ◌∷◌, length, ℤ, pos, negsuc, IfSome, Some, None, Option, ◌==◌, refl}
 use Rattle.std.proofs.Common.{sym, ◌∙◌, ap, subst, arith, eq-eqb}
-use Rattle.std.proofs.Math.Bridge.{le_prop}
+use Rattle.std.specs.Coded.{×_prop}
+use native.Mathlib.Nat.{ℕ_set}
 use Rattle.std.specs.Fmt.{digits}
 use Rattle.std.specs.List.{AllByRecursion}
-use Rattle.values.specs.Columns.{Within, Readable}
+use Rattle.values.specs.Columns.{Within, Held, Held-prop, Readable}
+use Rattle.values.specs.Readings.{one_column, four_columns}
 use Rattle.values.specs.Shown.{shown}
 use Rattle.values.specs.Texts.{points_text_of, goods_text}
 use Rattle.values.specs.Theorems.{ReadsBack, ToldApart, Unwritten, Refused, RefusesUnwritten}
 use Rattle.values.specs.Values.{points_columns, goods_columns}
 use Rattle.values.specs.Worked.{WorkedPoints, NoPoints, NoGoods, LongestGoods, no_points, no_goods}
-use Rattle.values.specs.declared.column.Column.{Column}
+use Rattle.values.specs.declared.columns.Columns.{Columns}
 use Rattle.values.specs.declared.goods.Goods.{Goods}
 use Rattle.values.specs.declared.points.Points.{Points}
 use Rattle.values.specs.Decoding.{points_columns_of, goods_columns_of, points_back, goods_back}
@@ -71,38 +73,39 @@ all_refused columns text back undo (bytes ∷ more) o =
     ((u, refuses_unwritten columns text bytes u), all_refused columns text back undo more p.1)
 
 points_undo : (v : Points) → points_columns_of (points_text_of (points_columns v)) ≡ points_columns v
-points_undo v = points_back v.halves.number v.halves.ok
+points_undo v =
+    one_column (λ cs. Held cs → points_columns_of (points_text_of cs) ≡ cs) (λ a h. points_back a h.0) v.columns.numbers v.columns.full v.columns.held
 
 goods_undo : (v : Goods) → goods_columns_of (goods_text (goods_columns v)) ≡ goods_columns v
-goods_undo v = goods_back v.wood.number v.stone.number v.ore.number v.cloth.number (v.wood.ok, (v.stone.ok, (v.ore.ok, (v.cloth.ok, tt))))
+goods_undo v =
+    four_columns (λ cs. Held cs → goods_columns_of (goods_text cs) ≡ cs) goods_back v.columns.numbers v.columns.full v.columns.held
 
 -- the same columns, or the same text, are the same value
-column_of : (z : ℤ) → Within 1000000000 z → Column
-column_of z p = record { number = z; ok = p }
+columns_of : (n : ℕ) (zs : List ℤ) → (length zs ≡ n) × Held zs → Columns n
+columns_of n zs p = record { numbers = zs; full = p.0; held = p.1 }
 
-same_column : (c d : Column) → c.number ≡ d.number → c ≡ d
-unfolding column_of
-same_column c d e =
-    let P : ℤ → Type 0 = λ z. (q : Within 1000000000 z) → c ≡ column_of z q in
-    subst P e (λ q. ap (column_of c.number) (le_prop c.ok q)) d.ok
+one_way : (n : ℕ) (zs : List ℤ) → IsProp ((length zs ≡ n) × Held zs)
+one_way n zs = ×_prop (ℕ_set _ _) (Held-prop zs)
 
-points_with : Column → Points
-points_with a = record { halves = a }
+same_columns : (n : ℕ) (c d : Columns n) → c.numbers ≡ d.numbers → c ≡ d
+unfolding columns_of
+same_columns n c d e =
+    let P : List ℤ → Type 0 = λ z. (q : (length z ≡ n) × Held z) → c ≡ columns_of n z q in
+    subst P e (λ q. ap (columns_of n c.numbers) (one_way n c.numbers (c.full, c.held) q)) (d.full, d.held)
 
-goods_with : (a b c d : Column) → Goods
-goods_with a b c d = record { wood = a; stone = b; ore = c; cloth = d }
+points_with : Columns 1 → Points
+points_with a = record { columns = a }
 
-same_parts : (a b c d i j k l : Column) → a ≡ i → b ≡ j → c ≡ k → d ≡ l → goods_with a b c d ≡ goods_with i j k l
-same_parts a b c d i j k l e f g h = cc
+goods_with : Columns 4 → Goods
+goods_with a = record { columns = a }
 
 pub same_columns_points : (v w : Points) → points_columns v ≡ points_columns w → v ≡ w
 unfolding points_with
-same_columns_points v w e = ap points_with (same_column v.halves w.halves (cc))
+same_columns_points v w e = ap points_with (same_columns 1 v.columns w.columns e)
 
 pub same_columns_goods : (v w : Goods) → goods_columns v ≡ goods_columns w → v ≡ w
 unfolding goods_with
-same_columns_goods v w e =
-    same_parts _ _ _ _ _ _ _ _ (same_column v.wood w.wood (cc)) (same_column v.stone w.stone (cc)) (same_column v.ore w.ore (cc)) (same_column v.cloth w.cloth (cc))
+same_columns_goods v w e = ap goods_with (same_columns 4 v.columns w.columns e)
 
 pub told_points : ToldApart points_columns points_text_of
 told_points v w e = same_columns_points v w (sym (points_undo v) ∙ ap points_columns_of e ∙ points_undo w)
@@ -123,7 +126,7 @@ unfolding digits
 longest_goods = refl
 
 abbrev points_of : (z : ℤ) → Within 1000000000 z → Points
-points_of z p = record { halves = record { number = z; ok = p } }
+points_of z p = record { columns = record { numbers = z ∷ []; full = refl; held = (p, tt) } }
 
 pub worked_points : WorkedPoints
 unfolding digits

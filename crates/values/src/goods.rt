@@ -1,12 +1,9 @@
-use crate::column::Column;
+use crate::columns::Columns;
 
 pub mod kind;
 
-// Goods of four sorts.
-#[derive(Clone, Copy)]
+// Goods of four sorts: wood, stone, ore, cloth.
+#[derive(Clone, Copy, Debug, PartialEq, Eq)]
 pub struct Goods {
-    wood: Column,
-    stone: Column,
-    ore: Column,
-    cloth: Column,
+    columns: Columns<4>,
 }

@@ -5,7 +5,7 @@ ghost use Rattle.values.specs.Guesses.{First, Guess, list_of};
 ghost use Rattle.values.specs.Texts.{goods_text, halves_text, points_text_of, signed_halves_text};
 ghost use Rattle.values.specs.Values.{goods_columns, points_columns};
 
-use crate::column::READABLE;
+use crate::columns::READABLE;
 use crate::goods::Goods;
 use crate::points::Points;
 
@@ -15,13 +15,7 @@ use crate::points::Points;
 fn whole(text: &str, most: u32) -> Option<u32>
     ensures { Guess decimal (λ n. n ≤ most) text.now result }
 {
-    let Ok(n) = text.parse::<u32>() else {
-        return None;
-    };
-    if n > most {
-        return None;
-    }
-    Some(n)
+    text.parse::<u32>().ok().filter(|n| *n <= most)
 }
 
 // A number of halves.
@@ -29,14 +23,8 @@ fn halves(text: &str) -> Option<u32>
     ensures { Guess halves_text (λ n. n ≤ 1000000) text.now result }
 {
     match text.split_once('.') {
-        Some((front, _)) => match whole(front, READABLE / 2 - 1) {
-            Some(n) => Some(2 * n + 1),
-            None => None,
-        },
-        None => match whole(text, READABLE / 2) {
-            Some(n) => Some(2 * n),
-            None => None,
-        },
+        Some((front, _)) => whole(front, READABLE / 2 - 1).map(|n| 2 * n + 1),
+        None => whole(text, READABLE / 2).map(|n| 2 * n),
     }
 }
 
@@ -45,14 +33,8 @@ fn signed_halves(text: &str) -> Option<i32>
     ensures { Guess signed_halves_text (Within 1000000) text.now result }
 {
     match text.strip_prefix('-') {
-        Some(rest) => match halves(rest) {
-            Some(n) => Some(-(n as i32)),
-            None => None,
-        },
-        None => match halves(text) {
-            Some(n) => Some(n as i32),
-            None => None,
-        },
+        Some(rest) => halves(rest).map(|n| -(n as i32)),
+        None => halves(text).map(|n| n as i32),
     }
 }
 
@@ -60,79 +42,47 @@ fn signed_halves(text: &str) -> Option<i32>
 fn column(text: &str) -> Option<i32>
     ensures { Guess signed_decimal (Within 1000000) text.now result }
 {
-    let Ok(z) = text.parse::<i32>() else {
-        return None;
-    };
-    if z.unsigned_abs() > READABLE {
-        return None;
-    }
-    Some(z)
+    text.parse::<i32>()
+        .ok()
+        .filter(|z| z.unsigned_abs() <= READABLE)
 }
 
 // The column before the first comma, and what follows the comma.
 fn first(text: &str) -> Option<(i32, &str)>
     ensures { First text.now result }
 {
-    let Some((front, rest)) = text.split_once(',') else {
-        return None;
-    };
-    let Some(z) = column(front) else {
-        return None;
-    };
-    Some((z, rest))
+    let (front, rest) = text.split_once(',')?;
+    Some((column(front)?, rest))
 }
 
 // Four columns parted by commas.
 fn four(text: &str) -> Option<(i32, i32, i32, i32)>
     ensures { Guess (λ q. goods_text (list_of q)) (λ q. Readable (list_of q)) text.now result }
 {
-    let Some((wood, after_wood)) = first(text) else {
-        return None;
-    };
-    let Some((stone, after_stone)) = first(after_wood) else {
-        return None;
-    };
-    let Some((ore, after_ore)) = first(after_stone) else {
-        return None;
-    };
-    let Some(cloth) = column(after_ore) else {
-        return None;
-    };
-    Some((wood, stone, ore, cloth))
+    let (wood, rest) = first(text)?;
+    let (stone, rest) = first(rest)?;
+    let (ore, rest) = first(rest)?;
+    Some((wood, stone, ore, column(rest)?))
 }
 
 // A number up to most.
 pub(crate) fn guess_number(bytes: &[u8], most: u32) -> Option<u32>
     ensures { Guess decimal (λ n. n ≤ most) bytes.now result }
 {
-    let Ok(text) = std::str::from_utf8(bytes) else {
-        return None;
-    };
-    whole(text, most)
+    whole(std::str::from_utf8(bytes).ok()?, most)
 }
 
 // Points.
 pub(crate) fn guess_points(bytes: &[u8]) -> Option<Points>
     ensures { Guess (λ v. points_text_of (points_columns v)) (λ v. Readable (points_columns v)) bytes.now result }
 {
-    let Ok(text) = std::str::from_utf8(bytes) else {
-        return None;
-    };
-    let Some(halves) = signed_halves(text) else {
-        return None;
-    };
-    Points::new(halves)
+    Points::new(signed_halves(std::str::from_utf8(bytes).ok()?)?)
 }
 
 // Goods.
 pub(crate) fn guess_goods(bytes: &[u8]) -> Option<Goods>
     ensures { Guess (λ v. goods_text (goods_columns v)) (λ v. Readable (goods_columns v)) bytes.now result }
 {
-    let Ok(text) = std::str::from_utf8(bytes) else {
-        return None;
-    };
-    let Some((wood, stone, ore, cloth)) = four(text) else {
-        return None;
-    };
+    let (wood, stone, ore, cloth) = four(std::str::from_utf8(bytes).ok()?)?;
     Goods::new(wood, stone, ore, cloth)
 }

@@ -1,6 +1,6 @@
 #![tactic(auto)]
 
-mod column;
+mod columns;
 pub mod goods;
 mod guess;
 pub mod kind;

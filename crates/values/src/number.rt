@@ -7,10 +7,5 @@ use crate::text::Text;
 pub fn read_number(bytes: &[u8], most: u32) -> Option<u32>
     ensures { ReadsNumber most bytes.now result }
 {
-    let n = guess_number(bytes, most)?;
-    if Text::from_u32(n).says(bytes) {
-        Some(n)
-    } else {
-        None
-    }
+    guess_number(bytes, most).filter(|n| Text::from(*n).as_slice() == bytes)
 }

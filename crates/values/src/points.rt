@@ -1,9 +1,9 @@
-use crate::column::Column;
+use crate::columns::Columns;
 
 pub mod kind;
 
 // Points, counted in halves.
-#[derive(Clone, Copy)]
+#[derive(Clone, Copy, Debug, PartialEq, Eq)]
 pub struct Points {
-    halves: Column,
+    columns: Columns<1>,
 }

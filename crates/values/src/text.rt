@@ -1,11 +1,9 @@
-ghost use Rattle.std.specs.Prelude.{◌≡◌, ◌≤◌, length};
+use arrayvec::ArrayString;
 
 pub mod writing;
 
 // A short text: at most 47 bytes.
-#[derive(Clone, Copy)]
+#[derive(Clone, Copy, Debug, PartialEq, Eq)]
 pub struct Text {
-    bytes: [u8; 47],
-    len: usize,
-    ghost ok: { (len ≤ 47) × (length bytes ≡ 47) },
+    text: ArrayString<47>,
 }

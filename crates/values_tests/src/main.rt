@@ -8,24 +8,20 @@ use values::points::Points;
 use values::text::Text;
 use values::theorems::reread;
 
-fn print_bytes(rt: &HostRuntime, bytes: &[u8]) -> io::Result<()> {
-    match std::str::from_utf8(bytes) {
-        Ok(text) => print!(rt; "{text}"),
-        Err(_) => print!(rt; "no text"),
-    }
+fn shown(bytes: &[u8]) -> &str {
+    std::str::from_utf8(bytes).unwrap_or("no text")
 }
 
 // What reading makes of a text: whether the value fits, its weight, and whether it is written so.
 fn print_read<K: Kind>(rt: &HostRuntime, bytes: &[u8]) -> io::Result<()> {
-    print!(rt; "[")?;
-    print_bytes(rt, bytes)?;
+    print!(rt; "[{}]", shown(bytes))?;
     let Some(value) = K::read(bytes) else {
-        return println!(rt; "] refused");
+        return println!(rt; " refused");
     };
     let fits = value.fits();
     let weight = value.weight();
     let same = value.write().as_slice() == bytes;
-    println!(rt; "] fits {fits} weight {weight} written so {same}")
+    println!(rt; " fits {fits} weight {weight} written so {same}")
 }
 
 // A value that may be absent: its text, how long it is, its weight, and whether it is read again.
@@ -35,72 +31,69 @@ fn print_value<K: Kind>(rt: &HostRuntime, name: &str, value: Option<K>) -> io::R
         return println!(rt; "absent");
     };
     let text = value.write();
-    print_bytes(rt, text.as_slice())?;
     let bytes = text.as_slice().len();
     let weight = value.weight();
     let again = reread(&value).is_some();
-    println!(rt; ", bytes {bytes}, weight {weight}, read again {again}")
+    println!(rt; "{text}, bytes {bytes}, weight {weight}, read again {again}")
 }
 
-fn read_points(rt: &HostRuntime) -> io::Result<()> {
-    let texts: [&[u8]; 26] = [
-        b"0",
-        b"-0.5",
-        b"0.5",
-        b"-1",
-        b"1.5",
-        b"5000",
-        b"-5000",
-        b"5000.5",
-        b"-5000.5",
-        b"500000",
-        b"-500000",
-        b"500000.5",
-        b"-500000.5",
-        b"",
-        b"-",
-        b"-0",
-        b"00",
-        b"+1",
-        b"1.0",
-        b".5",
-        b"1.50",
-        b" 1",
-        b"1 ",
-        b"1,2,3,4",
-        b"99999999999999999999",
-        b"1\xff",
-    ];
-    for text in texts {
-        print_read::<Points>(rt, text)?;
-    }
-    Ok(())
-}
+// Texts that points are read from, or are not.
+const POINTS: [&[u8]; 26] = [
+    b"0",
+    b"-0.5",
+    b"0.5",
+    b"-1",
+    b"1.5",
+    b"5000",
+    b"-5000",
+    b"5000.5",
+    b"-5000.5",
+    b"500000",
+    b"-500000",
+    b"500000.5",
+    b"-500000.5",
+    b"",
+    b"-",
+    b"-0",
+    b"00",
+    b"+1",
+    b"1.0",
+    b".5",
+    b"1.50",
+    b" 1",
+    b"1 ",
+    b"1,2,3,4",
+    b"99999999999999999999",
+    b"1\xff",
+];
 
-fn read_goods(rt: &HostRuntime) -> io::Result<()> {
-    let texts: [&[u8]; 19] = [
-        b"0,0,0,0",
-        b"1,-2,3,-4",
-        b"10000,-10000,10000,-10000",
-        b"10001,0,0,0",
-        b"0,-10001,0,0",
-        b"0,0,10001,0",
-        b"0,0,0,-10001",
-        b"1000000,1000000,-1000000,1000000",
-        b"1000001,0,0,0",
-        b"0,0,0,-1000001",
-        b"",
-        b"1,2,3",
-        b"1,2,3,4,5",
-        b"1,2,3,4,",
-        b",,,",
-        b"-0,2,3,4",
-        b"1,00,3,4",
-        b"1,2,+3,4.0",
-        b"1, 2,3,4",
-    ];
+// Texts that goods are read from, or are not.
+const GOODS: [&[u8]; 19] = [
+    b"0,0,0,0",
+    b"1,-2,3,-4",
+    b"10000,-10000,10000,-10000",
+    b"10001,0,0,0",
+    b"0,-10001,0,0",
+    b"0,0,10001,0",
+    b"0,0,0,-10001",
+    b"1000000,1000000,-1000000,1000000",
+    b"1000001,0,0,0",
+    b"0,0,0,-1000001",
+    b"",
+    b"1,2,3",
+    b"1,2,3,4,5",
+    b"1,2,3,4,",
+    b",,,",
+    b"-0,2,3,4",
+    b"1,00,3,4",
+    b"1,2,+3,4.0",
+    b"1, 2,3,4",
+];
+
+// What reading makes of each of these texts.
+fn print_readings<K: Kind>(rt: &HostRuntime, texts: &[&[u8]]) -> io::Result<()> {
     for text in texts {
-        print_read::<Goods>(rt, text)?;
+        print_read::<K>(rt, text)?;
     }
     Ok(())
 }
@@ -144,15 +137,8 @@ fn points_edges(rt: &HostRuntime) -> io::Result<()> {
 }
 
 // One column alone leaves the range.
-fn print_column(
-    rt: &HostRuntime,
-    edge: Goods,
-    wood: i32,
-    stone: i32,
-    ore: i32,
-    cloth: i32,
-) -> io::Result<()> {
-    let Some(column) = Goods::new(wood, stone, ore, cloth) else {
+fn print_column(rt: &HostRuntime, edge: Goods, column: Option<Goods>) -> io::Result<()> {
+    let Some(column) = column else {
         return println!(rt; "no column");
     };
     print_value(rt, "edge - column", edge.difference(&column))?;
@@ -169,10 +155,10 @@ fn goods_edges(rt: &HostRuntime) -> io::Result<()> {
         return println!(rt; "no unit");
     };
     print_edges(rt, edge, unit)?;
-    print_column(rt, edge, 1, 0, 0, 0)?;
-    print_column(rt, edge, 0, 1, 0, 0)?;
-    print_column(rt, edge, 0, 0, 1, 0)?;
-    print_column(rt, edge, 0, 0, 0, 1)
+    print_column(rt, edge, Goods::new(1, 0, 0, 0))?;
+    print_column(rt, edge, Goods::new(0, 1, 0, 0))?;
+    print_column(rt, edge, Goods::new(0, 0, 1, 0))?;
+    print_column(rt, edge, Goods::new(0, 0, 0, 1))
 }
 
 fn numbers(rt: &HostRuntime) -> io::Result<()> {
@@ -188,16 +174,15 @@ fn numbers(rt: &HostRuntime) -> io::Result<()> {
         b"4294967296",
     ];
     for text in texts {
-        print_bytes(rt, text)?;
+        let text_shown = shown(text);
         match read_number(text, 65_535) {
-            Some(n) => println!(rt; " is {n}")?,
-            None => println!(rt; " is no number")?,
+            Some(n) => println!(rt; "{text_shown} is {n}")?,
+            None => println!(rt; "{text_shown} is no number")?,
         }
     }
-    print_bytes(rt, Text::from_u32(u32::MAX).as_slice())?;
+    print!(rt; "{}", Text::from(u32::MAX))?;
     for z in [i32::MIN, -10, 0, 9, 10, i32::MAX] {
-        print!(rt; " ")?;
-        print_bytes(rt, Text::from_i32(z).as_slice())?;
+        print!(rt; " {}", Text::from(z))?;
     }
     println!(rt; "")
 }
@@ -206,8 +191,8 @@ fn main(rt: HostRuntime) -> io::Result<()> {
     let points = char::from(<Points as Kind>::letter());
     let goods = char::from(<Goods as Kind>::letter());
     println!(rt; "letters {points} {goods}")?;
-    read_points(&rt)?;
-    read_goods(&rt)?;
+    print_readings::<Points>(&rt, &POINTS)?;
+    print_readings::<Goods>(&rt, &GOODS)?;
     points_edges(&rt)?;
     goods_edges(&rt)?;
     numbers(&rt)

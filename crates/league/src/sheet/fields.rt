@@ -27,7 +27,7 @@ fn points_text(weight: i64) -> Text
     requires { unsigned_abs weight ≤ 4000000000 }
     ensures { shown result ≡ signed_decimal (league_points_of weight) }
 {
-    Text::from_i32(league_points(weight) as i32)
+    Text::from(league_points(weight) as i32)
 }
 
 // The line of an owner among all owners, where there is room for it.
@@ -58,10 +58,8 @@ pub(crate) fn put_owners<K: Kind>(print: &mut [u8], at: usize, owners: &[OwnerTo
     ensures bound { result ≤ at + 490 }
 {
     let mut end = at;
-    let mut number = 1;
-    for owner in owners {
-        end = put_owner(print, end, owners, number, owner);
-        number += 1;
+    for (i, owner) in owners.iter().enumerate() {
+        end = put_owner(print, end, owners, i as u32 + 1, owner);
     }
     end
 }

@@ -1,10 +1,10 @@
-ghost use Rattle.std.specs.Prelude.{◌≡◌, ◌≤◌, length, Decides};
-ghost use Rattle.league.specs.Refusals.{Begins, GoesOn, Prints, Step};
+ghost use Rattle.std.specs.Prelude.{◌≡◌, ◌≤◌, length};
+ghost use Rattle.league.specs.Refusals.{Begins, GoesOn, Prints, SameSize, Step};
 ghost use Rattle.league.specs.Sheets.{foot_text, head_text, owners_text, sheet_text};
 ghost use Rattle.league.specs.Writing.{Wrote};
 
 use super::fields::{put_foot, put_head, put_owners};
-use super::{Begun, Footed, Headed, Listed};
+use super::{Begun, Footed, Headed, Listed, Size};
 use crate::owner::OwnerTotal;
 use crate::refusal::SheetRefusal;
 use values::kind::Kind;
@@ -14,19 +14,25 @@ const FEWEST: usize = 512;
 
 // Begins a sheet in these bytes.
 pub fn begin(print: &[u8]) -> Result<Begun, SheetRefusal>
-    ensures { Begins (λ s. s.size) (length print.now) result }
+    ensures { Begins (λ s. s.size.bytes) (length print.now) result }
 {
     if print.len() < FEWEST {
         return Err(SheetRefusal::WrongSize);
     }
-    Ok(Begun { size: print.len() })
+    Ok(Begun {
+        size: Size { bytes: print.len() },
+    })
 }
 
-// Whether these are as many bytes as the sheet began with.
-fn same_size(size: usize, print: &[u8]) -> bool
-    ensures { Decides result (length print.now ≡ size) }
+// The sheet, if these are as many bytes as it began with.
+fn same_size<S>(size: Size, sheet: S, print: &[u8]) -> Result<S, (S, SheetRefusal)>
+    ensures { SameSize size.bytes (length print.now) sheet result }
 {
-    print.len() == size
+    if print.len() == size.bytes {
+        Ok(sheet)
+    } else {
+        Err((sheet, SheetRefusal::WrongSize))
+    }
 }
 
 impl Begun {
@@ -36,14 +42,12 @@ impl Begun {
         print: &mut [u8],
         standing: u16,
     ) -> Result<Headed, (Begun, SheetRefusal)>
-        ensures { Step self (GoesOn self.size (length print.old)) print.old print.new (λ s. (s.size ≡ self.size) × Wrote print.old 0 (head_text K.capital standing) s.len print.new) result }
+        ensures { Step self (GoesOn self.size.bytes (length print.old)) print.old print.new (λ s. (s.size.bytes ≡ self.size.bytes) × Wrote print.old 0 (head_text K.capital standing) s.len print.new) result }
     {
-        if !same_size(self.size, print) {
-            return Err((self, SheetRefusal::WrongSize));
-        }
+        let sheet = same_size(self.size, self, print)?;
         let len = put_head(print, K::letter(), standing);
         Ok(Headed {
-            size: self.size,
+            size: sheet.size,
             len,
         })
     }
@@ -56,14 +60,12 @@ impl Headed {
         print: &mut [u8],
         owners: &[OwnerTotal<K>; 7],
     ) -> Result<Listed, (Headed, SheetRefusal)>
-        ensures { Step self (GoesOn self.size (length print.old)) print.old print.new (λ s. (s.size ≡ self.size) × Wrote print.old self.len (owners_text K.columns K.weigh K.text owners.now) s.len print.new) result }
+        ensures { Step self (GoesOn self.size.bytes (length print.old)) print.old print.new (λ s. (s.size.bytes ≡ self.size.bytes) × Wrote print.old self.len (owners_text K.columns K.weigh K.text owners.now) s.len print.new) result }
     {
-        if !same_size(self.size, print) {
-            return Err((self, SheetRefusal::WrongSize));
-        }
-        let len = put_owners(print, self.len, owners);
+        let sheet = same_size(self.size, self, print)?;
+        let len = put_owners(print, sheet.len, owners);
         Ok(Listed {
-            size: self.size,
+            size: sheet.size,
             len,
         })
     }
@@ -72,13 +74,11 @@ impl Headed {
 impl Listed {
     // Writes the foot: Z and 7.
     pub fn foot(self, print: &mut [u8]) -> Result<Footed, (Listed, SheetRefusal)>
-        ensures { Step self (GoesOn self.size (length print.old)) print.old print.new (λ s. Wrote print.old self.len foot_text s.written print.new) result }
+        ensures { Step self (GoesOn self.size.bytes (length print.old)) print.old print.new (λ s. Wrote print.old self.len foot_text s.written print.new) result }
     {
-        if !same_size(self.size, print) {
-            return Err((self, SheetRefusal::WrongSize));
-        }
-        let len = put_foot(print, self.len);
-        Ok(Footed { written: len })
+        let sheet = same_size(self.size, self, print)?;
+        let written = put_foot(print, sheet.len);
+        Ok(Footed { written })
     }
 }
 
@@ -100,17 +100,8 @@ pub fn print_sheet<K: Kind>(
 ) -> Result<usize, SheetRefusal>
     ensures { Prints print.old (sheet_text K.capital K.columns K.weigh K.text standing owners.now) print.new result }
 {
-    let begun = begin(print)?;
-    let headed = match begun.head::<K>(print, standing) {
-        Ok(headed) => headed,
-        Err(back) => return Err(back.1),
-    };
-    let listed = match headed.list(print, owners) {
-        Ok(listed) => listed,
-        Err(back) => return Err(back.1),
-    };
-    match listed.foot(print) {
-        Ok(footed) => Ok(footed.len()),
-        Err(back) => Err(back.1),
-    }
+    let headed = begin(print)?.head::<K>(print, standing)?;
+    let listed = headed.list(print, owners)?;
+    let footed = listed.foot(print)?;
+    Ok(footed.len())
 }

@@ -1,16 +1,13 @@
-ghost use Rattle.values.specs.Columns.{Made, total, Held};
+ghost use Rattle.values.specs.Columns.{Made, total};
 ghost use Rattle.values.specs.Texts.{goods_text};
 ghost use Rattle.values.specs.Values.{goods_columns};
-ghost use Rattle.std.specs.Prelude.{◌≡◌, [], ◌∷◌, ◌+ℤ◌, refl};
-ghost use Rattle.values.specs.declared.goods.Goods.{Goods};
-ghost use Rattle.values.specs.Readings.{four_columns};
+ghost use Rattle.std.specs.Prelude.{◌≡◌, [], ◌∷◌, refl};
+ghost use Rattle.values.specs.Readings.{light, short_goods};
 ghost use Rattle.std.proofs.Common.{arith, rules};
-ghost use Rattle.std.proofs.lemmas.Int.{ints};
-ghost use Rattle.values.specs.Numbers.{length_goods};
 ghost use Rattle.values.specs.Together.{same_columns_goods, told_goods};
 
 use super::Goods;
-use crate::column::{Column, FITTING};
+use crate::columns::{Columns, FITTING};
 use crate::guess::guess_goods;
 use crate::kind::Kind;
 use crate::text::Text;
@@ -20,22 +17,11 @@ impl Goods {
     pub fn new(wood: i32, stone: i32, ore: i32, cloth: i32) -> Option<Goods>
         ensures { Made goods_columns (wood ∷ (stone ∷ (ore ∷ (cloth ∷ [])))) result }
     {
-        Some(Goods {
-            wood: Column::new(wood)?,
-            stone: Column::new(stone)?,
-            ore: Column::new(ore)?,
-            cloth: Column::new(cloth)?,
-        })
+        Columns::new([wood, stone, ore, cloth]).map(|columns| Goods { columns })
     }
 }
 
-// The sum of two columns.
-fn both(a: &Column, b: &Column) -> i64
-    ensures { result ≡ a.now.number +ℤ b.now.number }
-{
-    i64::from(a.number()) + i64::from(b.number())
-}
-
+// Points and goods share `Columns`; what is left in their two impls is a line for each call.
 impl Kind for Goods {
     ghost capital = { 71 };
 
@@ -51,26 +37,17 @@ impl Kind for Goods {
 
     ghost few = { Prim.search rules };
 
-    ghost wide = { Prim.search rules };
+    ghost wide = { λ x. x.columns.full };
 
-    ghost held = { Prim.search rules };
+    ghost held = { λ x. x.columns.held };
 
-    ghost every = { four_columns (λ cs. Held cs → (x : Goods) × (goods_columns x ≡ cs))
-        (λ a b c d h. (
-          record {
-            wood = record { number = a; ok = h.0 };
-            stone = record { number = b; ok = h.1.0 };
-            ore = record { number = c; ok = h.1.1.0 };
-            cloth = record { number = d; ok = h.1.1.1.0 };
-          },
-          refl,
-        )) };
+    ghost every = { λ cs f h. (record { columns = record { numbers = cs; full = f; held = h } }, refl) };
 
     ghost same = { same_columns_goods };
 
-    ghost light = { λ x. omega (arith, ints) };
+    ghost light = { λ x. light x.columns.numbers (omega arith) x.columns.held };
 
-    ghost short = { λ x. length_goods x.wood.number x.stone.number x.ore.number x.cloth.number x.wood.ok x.stone.ok x.ore.ok x.cloth.ok };
+    ghost short = { λ x. short_goods x.columns.numbers x.columns.full x.columns.held };
 
     ghost told = { told_goods };
 
@@ -80,52 +57,35 @@ impl Kind for Goods {
 
     fn zero() -> Goods {
         Goods {
-            wood: Column::zero(),
-            stone: Column::zero(),
-            ore: Column::zero(),
-            cloth: Column::zero(),
+            columns: Columns::zero(),
         }
     }
 
     fn fits(&self) -> bool {
-        self.wood.within(FITTING)
-            && self.stone.within(FITTING)
-            && self.ore.within(FITTING)
-            && self.cloth.within(FITTING)
+        self.columns.within(FITTING)
     }
 
     fn sum(&self, other: &Goods) -> Option<Goods> {
         Some(Goods {
-            wood: self.wood.sum(&other.wood)?,
-            stone: self.stone.sum(&other.stone)?,
-            ore: self.ore.sum(&other.ore)?,
-            cloth: self.cloth.sum(&other.cloth)?,
+            columns: self.columns.sum(&other.columns)?,
         })
     }
 
     fn difference(&self, other: &Goods) -> Option<Goods> {
         Some(Goods {
-            wood: self.wood.difference(&other.wood)?,
-            stone: self.stone.difference(&other.stone)?,
-            ore: self.ore.difference(&other.ore)?,
-            cloth: self.cloth.difference(&other.cloth)?,
+            columns: self.columns.difference(&other.columns)?,
         })
     }
 
     fn weight(&self) -> i64 {
-        both(&self.wood, &self.stone) + both(&self.ore, &self.cloth)
+        self.columns.total()
     }
 
     fn write(&self) -> Text {
-        Text::from_four(&self.wood, &self.stone, &self.ore, &self.cloth)
+        Text::parted(&self.columns.numbers())
     }
 
     fn read(bytes: &[u8]) -> Option<Goods> {
-        let value = guess_goods(bytes)?;
-        if value.write().says(bytes) {
-            Some(value)
-        } else {
-            None
-        }
+        guess_goods(bytes).filter(|value| value.write().as_slice() == bytes)
     }
 }

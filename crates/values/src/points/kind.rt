@@ -1,15 +1,13 @@
-ghost use Rattle.values.specs.Columns.{Made, total, Held};
+ghost use Rattle.values.specs.Columns.{Made, total};
 ghost use Rattle.values.specs.Texts.{points_text_of};
 ghost use Rattle.values.specs.Values.{points_columns};
 ghost use Rattle.std.specs.Prelude.{◌≡◌, [], ◌∷◌, refl};
-ghost use Rattle.values.specs.declared.points.Points.{Points};
-ghost use Rattle.values.specs.Readings.{one_column};
+ghost use Rattle.values.specs.Readings.{light, short_points};
 ghost use Rattle.values.specs.Together.{same_columns_points, told_points};
-ghost use Rattle.values.specs.Numbers.{length_points};
-ghost use Rattle.std.proofs.Common.{rules};
+ghost use Rattle.std.proofs.Common.{arith, rules};
 
 use super::Points;
-use crate::column::{Column, FITTING};
+use crate::columns::{Columns, FITTING};
 use crate::guess::guess_points;
 use crate::kind::Kind;
 use crate::text::Text;
@@ -19,9 +17,7 @@ impl Points {
     pub fn new(halves: i32) -> Option<Points>
         ensures { Made points_columns (halves ∷ []) result }
     {
-        Some(Points {
-            halves: Column::new(halves)?,
-        })
+        Columns::new([halves]).map(|columns| Points { columns })
     }
 }
 
@@ -40,17 +36,17 @@ impl Kind for Points {
 
     ghost few = { Prim.search rules };
 
-    ghost wide = { Prim.search rules };
+    ghost wide = { λ x. x.columns.full };
 
-    ghost held = { Prim.search rules };
+    ghost held = { λ x. x.columns.held };
 
-    ghost every = { one_column (λ cs. Held cs → (x : Points) × (points_columns x ≡ cs)) (λ a h. (record { halves = record { number = a; ok = h.0 } }, refl)) };
+    ghost every = { λ cs f h. (record { columns = record { numbers = cs; full = f; held = h } }, refl) };
 
     ghost same = { same_columns_points };
 
-    ghost light = { Prim.search rules };
+    ghost light = { λ x. light x.columns.numbers (omega arith) x.columns.held };
 
-    ghost short = { λ x. length_points x.halves.number x.halves.ok };
+    ghost short = { λ x. short_points x.columns.numbers x.columns.full x.columns.held };
 
     ghost told = { told_points };
 
@@ -60,43 +56,39 @@ impl Kind for Points {
 
     fn zero() -> Points {
         Points {
-            halves: Column::zero(),
+            columns: Columns::zero(),
         }
     }
 
     fn fits(&self) -> bool {
-        self.halves.within(FITTING)
+        self.columns.within(FITTING)
     }
 
     fn sum(&self, other: &Points) -> Option<Points> {
         Some(Points {
-            halves: self.halves.sum(&other.halves)?,
+            columns: self.columns.sum(&other.columns)?,
         })
     }
 
     fn difference(&self, other: &Points) -> Option<Points> {
         Some(Points {
-            halves: self.halves.difference(&other.halves)?,
+            columns: self.columns.difference(&other.columns)?,
         })
     }
 
     fn weight(&self) -> i64 {
-        i64::from(self.halves.number())
+        self.columns.total()
     }
 
     fn write(&self) -> Text {
+        let [halves] = self.columns.numbers();
         let mut text = Text::empty();
-        text.push_minus(self.halves.number());
-        text.push_halves(self.halves.number().unsigned_abs());
+        text.push_minus(halves);
+        text.push_halves(halves.unsigned_abs());
         text
     }
 
     fn read(bytes: &[u8]) -> Option<Points> {
-        let value = guess_points(bytes)?;
-        if value.write().says(bytes) {
-            Some(value)
-        } else {
-            None
-        }
+        guess_points(bytes).filter(|value| value.write().as_slice() == bytes)
     }
 }

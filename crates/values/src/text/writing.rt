@@ -1,39 +1,53 @@
-ghost use Rattle.std.specs.Prelude.{◌≡◌, ◌+◌, ◌<◌, ◌≤◌, [], ◌∷◌, ◌++◌, length, decimal, Decides};
+ghost use Rattle.std.specs.Prelude.{◌≡◌, ◌+◌, ◌≤◌, [], ◌++◌, length, decimal, Some};
 ghost use Rattle.std.specs.Fmt.{signed_decimal};
+ghost use Rattle.values.specs.Columns.{Held};
 ghost use Rattle.values.specs.Shown.{shown};
 ghost use Rattle.values.specs.Texts.{goods_text, halves_text, minus};
 
 use super::Text;
-use crate::column::Column;
+use arrayvec::ArrayString;
+use itoa::{Buffer, Integer};
+use std::fmt;
+
+// The number in decimal.
+impl From<u32> for Text {
+    ghost from_gives = { λ n text. shown text ≡ decimal n };
+
+    fn from(n: u32) -> Text {
+        Text::number(n)
+    }
+}
+
+// The number in decimal, with a minus sign if it is below 0.
+impl From<i32> for Text {
+    ghost from_gives = { λ z text. shown text ≡ signed_decimal z };
+
+    fn from(z: i32) -> Text {
+        Text::number(z)
+    }
+}
+
+impl fmt::Display for Text {
+    ghost output = { λ text. Some (shown text) };
+
+    fn fmt<W: fmt::Write>(&self, f: &mut fmt::Formatter<W>) -> fmt::Result {
+        fmt::Display::fmt(&self.text, f)
+    }
+}
 
 impl Text {
-    // The number in decimal.
-    pub fn from_u32(n: u32) -> Text
-        ensures { shown result ≡ decimal n }
-    {
-        let mut text = Text::empty();
-        text.push_number(n);
-        text
-    }
-
-    // The number in decimal, with a minus sign if it is below 0.
-    pub fn from_i32(z: i32) -> Text
-        ensures { shown result ≡ signed_decimal z }
-    {
-        let mut text = Text::empty();
-        text.push_signed(z);
-        text
-    }
-
     // Four columns in decimal, parted by commas.
-    pub(crate) fn from_four(a: &Column, b: &Column, c: &Column, d: &Column) -> Text
-        ensures { shown result ≡ goods_text (a.now.number ∷ (b.now.number ∷ (c.now.number ∷ (d.now.number ∷ [])))) }
+    pub(crate) fn parted(columns: &[i32; 4]) -> Text
+        requires { Held columns.now }
+        ensures { shown result ≡ goods_text columns.now }
     {
         let mut text = Text::empty();
-        text.push_column(a);
-        text.push_next(b);
-        text.push_next(c);
-        text.push_next(d);
+        for (i, z) in columns.iter().enumerate() {
+            if i > 0 {
+                text.text.push(',');
+            }
+            text.push_number(*z);
+        }
         text
     }
 
@@ -41,53 +55,35 @@ impl Text {
         ensures shows { result.now ≡ shown self.now }
         ensures short { length result.now ≤ 47 }
     {
-        &self.bytes[0..self.len]
-    }
-
-    // Whether the text is just these bytes.
-    pub(crate) fn says(&self, bytes: &[u8]) -> bool
-        ensures { Decides result (bytes.now ≡ shown self.now) }
-    {
-        self.as_slice() == bytes
+        self.text.as_str().as_bytes()
     }
 
     pub(crate) fn empty() -> Text
         ensures { shown result ≡ [] }
     {
         Text {
-            bytes: [0; 47],
-            len: 0,
+            text: ArrayString::new(),
         }
     }
 
-    fn push(&mut self, byte: u8)
-        requires { length (shown self.old) < 47 }
-        ensures { shown self.new ≡ shown self.old ++ (byte ∷ []) }
+    // The number in decimal, with a minus sign if it is below 0.
+    fn number<I: Integer>(n: I) -> Text
+        requires { I.MAX_STR_LEN ≤ 47 }
+        ensures after { shown result ≡ I.text n }
+        ensures room { length (shown result) ≤ I.MAX_STR_LEN }
     {
-        self.bytes[self.len] = byte;
-        self.len += 1;
+        let mut text = Text::empty();
+        text.push_number(n);
+        text
     }
 
-    // The number's decimal digits, where there is just room for them.
-    fn push_decimal(&mut self, n: u32)
-        requires { length (shown self.old) + length (decimal n) ≤ 47 }
-        ensures { shown self.new ≡ shown self.old ++ decimal n }
+    // The same, behind what is written.
+    fn push_number<I: Integer>(&mut self, n: I)
+        requires { length (shown self.old) + I.MAX_STR_LEN ≤ 47 }
+        ensures after { shown self.new ≡ shown self.old ++ I.text n }
+        ensures room { length (shown self.new) ≤ length (shown self.old) + I.MAX_STR_LEN }
     {
-        if n < 10 {
-            self.push(b'0' + n as u8);
-            return;
-        }
-        self.push_decimal(n / 10);
-        self.push(b'0' + (n % 10) as u8);
-    }
-
-    // The number's decimal digits, at most ten.
-    fn push_number(&mut self, n: u32)
-        requires { length (shown self.old) + 10 ≤ 47 }
-        ensures after { shown self.new ≡ shown self.old ++ decimal n }
-        ensures room { length (shown self.new) ≤ length (shown self.old) + 10 }
-    {
-        self.push_decimal(n);
+        self.text.push_str(Buffer::new().format(n));
     }
 
     // A minus sign if the number is below 0.
@@ -95,39 +91,9 @@ impl Text {
         requires { length (shown self.old) + 1 ≤ 47 }
         ensures { shown self.new ≡ shown self.old ++ minus z }
     {
-        if z >= 0 {
-            return;
+        if z < 0 {
+            self.text.push('-');
         }
-        self.push(b'-');
-    }
-
-    // A minus sign if the number is below 0, and its size in decimal.
-    fn push_signed(&mut self, z: i32)
-        requires { length (shown self.old) + 11 ≤ 47 }
-        ensures after { shown self.new ≡ shown self.old ++ signed_decimal z }
-        ensures room { length (shown self.new) ≤ length (shown self.old) + 11 }
-    {
-        self.push_minus(z);
-        self.push_number(z.unsigned_abs());
-    }
-
-    // A column in decimal.
-    fn push_column(&mut self, column: &Column)
-        requires { length (shown self.old) + 11 ≤ 47 }
-        ensures after { shown self.new ≡ shown self.old ++ signed_decimal column.now.number }
-        ensures room { length (shown self.new) ≤ length (shown self.old) + 11 }
-    {
-        self.push_signed(column.number());
-    }
-
-    // A comma and a column.
-    fn push_next(&mut self, column: &Column)
-        requires { length (shown self.old) + 12 ≤ 47 }
-        ensures after { shown self.new ≡ shown self.old ++ (44 ∷ signed_decimal column.now.number) }
-        ensures room { length (shown self.new) ≤ length (shown self.old) + 12 }
-    {
-        self.push(b',');
-        self.push_column(column);
     }
 
     // The whole part of n halves, and .5 if n is odd.
@@ -136,10 +102,8 @@ impl Text {
         ensures { shown self.new ≡ shown self.old ++ halves_text n }
     {
         self.push_number(n / 2);
-        if n % 2 == 0 {
-            return;
+        if n % 2 == 1 {
+            self.text.push_str(".5");
         }
-        self.push(b'.');
-        self.push(b'5');
     }
 }
