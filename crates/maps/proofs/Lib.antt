@@ -6,5 +6,6 @@ pub mod Good
 pub mod Hexed
 pub mod Listed
 pub mod Pairing
+pub mod Past
 pub mod Repeating
 pub mod Walks

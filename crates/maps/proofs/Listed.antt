@@ -10,10 +10,12 @@ use Rattle.maps.specs.Links.{Link, Meaning, some_same}
 use Rattle.maps.specs.Marks.{Cleared}
 use Rattle.maps.specs.LinkChecks.{at_place, Passes, EndsGood}
 use Rattle.maps.specs.Chains.{Chains}
-use Rattle.maps.specs.Repeats.{FirstRepeat, SamePast}
+use Rattle.maps.specs.Past.{SameFrom}
+use Rattle.maps.specs.Repeats.{FirstRepeat}
 use Rattle.maps.specs.Refusals.{list_number}
 use Rattle.maps.specs.Listing.{TooLarge, TooShort, Lent, SoundTo, RefusesAt, ReadList, ReadInto}
 use Rattle.maps.proofs.Good.{refused_13, accepted}
+use Rattle.maps.proofs.Past.{past_place}
 
 -- the same number of spaces, said in another way
 
@@ -107,12 +109,12 @@ room_is n m lent large short = (
   elim (cases_lt (length lent.next) m) [ inl x ↦ absurd (short (inr (inr (inr x)))) | inr x ↦ x ],
 )
 
-pub cleared_again : (n n₁ n₂ n₃ : ℕ) (a b c d : List ℕ) → n₁ ≡ n → n₂ ≡ n → n₃ ≡ n → Cleared n₁ a b → SamePast n₂ b c → Cleared n₃ c d → Cleared n a d
+pub cleared_again : (n n₁ n₂ n₃ : ℕ) (a b c d : List ℕ) → n₁ ≡ n → n₂ ≡ n → n₃ ≡ n → Cleared n₁ a b → SameFrom n₂ b c → Cleared n₃ c d → Cleared n a d
 cleared_again n n₁ n₂ n₃ a b c d e₁ e₂ e₃ p q r =
     record {
       len = r.len ∙ (q.len ∙ p.len);
       low = λ x l. r.low x (omega arith);
-      high = λ x l. r.high x (omega arith) ∙ (q.high x (omega arith) ∙ p.high x (omega arith));
+      high = λ x l. r.high x (omega arith) ∙ (past_place n₂ b c q x (omega arith) ∙ p.high x (omega arith));
     }
 
 module _ (map : Meaning) (lent : Lent) (r : Result (Unit {0}) ListRefusal) (n m : ℕ) (links : List Link) (head : List ℕ) (next : List Link) (marks : List ℕ) (en : n ≡ map.spaces) (em : m ≡ length map.links) where

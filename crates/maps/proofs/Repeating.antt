@@ -1,6 +1,6 @@
 -- The search for a repeated link: the walks along the chain of one space.
 use Rattle.std.proofs.Common.{◌≡◌, ℕ, zero, suc, ◌+◌, ◌-◌, ◌<◌, ◌≤◌, min, Bool, true, false, cond, not, ◌&&◌, ◌||◌, eqb, ltb, List, [], ◌∷◌, ◌++◌, length, get_or, take, drop, set, Option, sym, refl, ap, ◌∙◌, subst, inl, inr, arith}
-use Rattle.std.proofs.lemmas.List.{take_more, drop_more, drop_all, length-set, get_or-set_same, get_or-set_other}
+use Rattle.std.proofs.lemmas.List.{take_more, drop_more, drop_all, get_or-set_same, get_or-set_other}
 use Rattle.std.proofs.lemmas.Bool.{cases_eq, cases_Bool, cases_lt, eq-eqb, ne_eqb, lt-ltb, le-ltb, or_left, both_ways}
 use Rattle.std.proofs.lemmas.Bool.Decides.{nat_tests}
 use Rattle.maps.specs.declared.chains.Chained.{Chained}
@@ -9,10 +9,12 @@ use Rattle.maps.specs.Links.{Link, same, some_same}
 use Rattle.maps.specs.LinkChecks.{EndsGood}
 use Rattle.maps.specs.Chains.{touches, other, Next, StepsRound}
 use Rattle.maps.specs.Marks.{marked}
-use Rattle.maps.specs.Repeats.{SamePast, OnlyMet, NoneMet, FirstRepeatOf, NoRepeatOf, FirstRepeat}
-use Rattle.maps.specs.Searching.{Used}
+use Rattle.maps.specs.Past.{SameFrom}
+use Rattle.maps.specs.Repeats.{OnlyMet, NoneMet, FirstRepeatOf, NoRepeatOf, FirstRepeat}
+use Rattle.maps.specs.Searching.{StillLent}
 use Rattle.maps.proofs.Walks.{FirstRepeatBelow, Marking, Unmarking}
 use Rattle.maps.proofs.Chaining.{ends_at}
+use Rattle.maps.proofs.Past.{past_same, past_trans, past_write}
 
 -- a link that touches v joins it to its other end
 pub same_of : (c d v x : ℕ) → (eqb c v || eqb d v) ≡ true → ((eqb v c && eqb x d) || (eqb v d && eqb x c)) ≡ eqb x (cond (eqb c v) d c)
@@ -94,13 +96,6 @@ marked_else marks w b x ne = ap (λ (y : ℕ). not (eqb y 0)) (get_or-set_other 
 
 written : (n : ℕ) (marks marks' : List ℕ) (w b : ℕ) → w < n → marks' ≡ cond (ltb w n) (set marks w b) marks → marks' ≡ set marks w b
 written n marks marks' w b l e = e ∙ ap (λ (t : Bool). cond t (set marks w b) marks) (lt-ltb w n l)
-
-past_on : (n : ℕ) (before marks : List ℕ) (w b : ℕ) → w < n → SamePast n before marks → SamePast n before (set marks w b)
-past_on n before marks w b l h =
-    record {
-      len = length-set marks w b ∙ h.len;
-      high = λ q hq. get_or-set_other marks w q b 0 (λ e. omega arith) ∙ h.high q hq;
-    }
 
 test_in : (w n : ℕ) (b r : Bool) → w < n → r ≡ (ltb w n && b) → b ≡ r
 test_in w n b r l e = let t : ltb w n ≡ true = lt-ltb w n l in grind (arith, nat_tests)
@@ -201,26 +196,26 @@ module _ {n : ℕ} {links : List Link} (v : ℕ) (ends : EndsGood n links) where
 
 -- the marks in use
 
-pub used_none : (a : Marks) → Used a a
-used_none a = record { n = refl; same = refl; past = record { len = refl; high = λ q _. refl } }
+pub lent_none : (a : Marks) → StillLent a.n a a
+lent_none a = record { n = refl; same = refl; bytes = past_same a.n a.bytes.now }
 
-pub used_again : {a b c : Marks} → Used a b → Used b c → Used a c
-used_again {a} {b} {c} h k =
+pub lent_again : {a b c : Marks} → StillLent a.n a b → StillLent b.n b c → StillLent a.n a c
+lent_again {a} {b} {c} h k =
     record {
       n = k.n ∙ h.n;
       same = k.same ∙ h.same;
-      past = record { len = k.past.len ∙ h.past.len; high = λ q l. k.past.high q (omega (arith, h.n)) ∙ h.past.high q l };
+      bytes = past_trans a.n a.bytes.now b.bytes.now c.bytes.now h.bytes (subst (λ (n : ℕ). SameFrom n b.bytes.now c.bytes.now) h.n k.bytes);
     }
 
 -- one byte written, if the space is one of theirs
-pub used_write : {a b : Marks} (w byte : ℕ) → b.bytes.now ≡ cond (ltb w a.n) (set a.bytes.now w byte) a.bytes.now → b.n ≡ a.n → b.bytes.ghost_name ≡ a.bytes.ghost_name → Used a b
-used_write {a} {b} w byte e n kept =
+pub lent_write : {a b : Marks} (w byte : ℕ) → b.bytes.now ≡ cond (ltb w a.n) (set a.bytes.now w byte) a.bytes.now → b.n ≡ a.n → b.bytes.ghost_name ≡ a.bytes.ghost_name → StillLent a.n a b
+lent_write {a} {b} w byte e n kept =
     record {
       n = n;
       same = kept;
-      past = elim (cases_lt w a.n) [
-        | inl l ↦ subst (λ (ms : List ℕ). SamePast a.n a.bytes.now ms) (sym (written a.n a.bytes.now b.bytes.now w byte l e)) (past_on a.n a.bytes.now a.bytes.now w byte l (record { len = refl; high = λ q _. refl }))
-        | inr l ↦ subst (λ (ms : List ℕ). SamePast a.n a.bytes.now ms) (sym (e ∙ ap (λ (t : Bool). cond t (set a.bytes.now w byte) a.bytes.now) (le-ltb w a.n l))) (record { len = refl; high = λ q _. refl })
+      bytes = elim (cases_lt w a.n) [
+        | inl l ↦ subst (λ (ms : List ℕ). SameFrom a.n a.bytes.now ms) (sym (written a.n a.bytes.now b.bytes.now w byte l e)) (past_write a.n a.bytes.now w byte l)
+        | inr l ↦ subst (λ (ms : List ℕ). SameFrom a.n a.bytes.now ms) (sym (e ∙ ap (λ (t : Bool). cond t (set a.bytes.now w byte) a.bytes.now) (le-ltb w a.n l))) (past_same a.n a.bytes.now)
       ];
     }
 

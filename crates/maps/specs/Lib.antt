@@ -9,6 +9,7 @@ pub mod Links
 pub mod ListMemory
 pub mod Listing
 pub mod Marks
+pub mod Past
 pub mod Ranges
 pub mod Reading
 pub mod Refusals

@@ -1,13 +1,8 @@
 -- What the search for a repeated link finds, and the marks that it leaves. Assumes nothing.
-use Rattle.std.specs.Prelude.{◌≡◌, ℕ, ◌<◌, ◌≤◌, true, false, List, length, take, slice_index, slice_index_or}
+use Rattle.std.specs.Prelude.{◌≡◌, ℕ, ◌<◌, ◌≤◌, true, false, List, length, take, slice_index_or}
 use Rattle.maps.specs.Links.{Link, some_same}
 use Rattle.maps.specs.Chains.{touches}
 use Rattle.maps.specs.Marks.{marked}
-
--- marks for n spaces: as many bytes as before, and those past the first n as they were
-pub record SamePast (n : ℕ) (before after : List ℕ) : Type 0 where
-  pub len : length after ≡ length before
-  pub high : (q : ℕ) → n ≤ q → slice_index after q ≡ slice_index before q
 
 -- a marked space below n is joined to v by a link
 abbrev pub OnlyMet : ℕ → List Link → ℕ → List ℕ → Type 0

@@ -1,14 +1,14 @@
--- Marks lent to a search. Assumes nothing.
+-- Marks that are lent for a search. Assumes nothing.
 use Rattle.std.specs.Prelude.{◌≡◌, ℕ, ◌≤◌, length}
 use Rattle.maps.specs.declared.marks.Marks.{Marks}
-use Rattle.maps.specs.Repeats.{SamePast}
+use Rattle.maps.specs.Past.{SameFrom}
 
--- marks for n spaces, with a byte for each
-abbrev pub MarksFor : ℕ → Marks → Type 0
-MarksFor n marks = (marks.n ≡ n) × (n ≤ length marks.bytes.now)
+-- the marks are those of so many spaces, with a byte for each
+abbrev pub MarksOf : ℕ → Marks → Type 0
+MarksOf spaces marks = (marks.n ≡ spaces) × (spaces ≤ length marks.bytes.now)
 
--- a search used the marks: they are still for as many spaces and over the same lent bytes, and those past the spaces are as they were
-pub record Used (before after : Marks) : Type 0 where
-  pub n : after.n ≡ before.n
-  pub same : after.bytes.ghost_name ≡ before.bytes.ghost_name
-  pub past : SamePast before.n before.bytes.now after.bytes.now
+-- the same marks, of which only the first bytes may have changed
+pub record StillLent (spaces : ℕ) (marks marks' : Marks) : Type 0 where
+  pub n : marks'.n ≡ marks.n
+  pub same : marks'.bytes.ghost_name ≡ marks.bytes.ghost_name
+  pub bytes : SameFrom spaces marks.bytes.now marks'.bytes.now

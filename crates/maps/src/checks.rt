@@ -3,7 +3,7 @@ ghost use Rattle.maps.specs.Links.{pair_at};
 ghost use Rattle.maps.specs.ListMemory.{SameMemory, contents};
 ghost use Rattle.maps.specs.Listing.{BadEnds, Decides, Listed, ReadInto, ReadList, RefusesAt, SoundTo, TooLarge, TooShort, list_row};
 ghost use Rattle.maps.specs.Repeats.{NoneMet};
-ghost use Rattle.maps.specs.Searching.{MarksFor, Used};
+ghost use Rattle.maps.specs.Searching.{MarksOf, StillLent};
 
 use crate::marks::Marks;
 use crate::memory::ListMemory;
@@ -71,10 +71,10 @@ fn check_parts<M: Map>(
 ) -> Result<(), ListRefusal>
     requires size { (length head.old ≡ (M.meaning map.now).spaces) × (length links.old ≡ length (M.meaning map.now).links) × (length next.old ≡ length links.old) }
     requires room { (length head.old ≤ 4096) × (length links.old ≤ 32768) }
-    requires marks { MarksFor (length head.old) met.old }
+    requires marks { MarksOf (length head.old) met.old }
     requires none { NoneMet (length head.old) met.old.bytes.now }
     ensures read { ReadList (M.meaning map.now).spaces (M.meaning map.now).links links.new head.new next.new result }
-    ensures used { Used met.old met.new }
+    ensures lent { StillLent met.old.n met.old met.new }
 {
     let n = map.spaces();
     let sound = copy_sound(map, n, links);

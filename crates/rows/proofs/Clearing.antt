@@ -7,21 +7,13 @@ use Rattle.maps.specs.Sets.{Spaces, bytes}
 use Rattle.maps.specs.declared.marks.Marks.{Marks}
 use Rattle.crowding.proofs.Uniform.{crowding_at}
 use Rattle.rows.specs.Keeping.{Reported}
-use Rattle.rows.specs.Lent.{StillLent}
-use Rattle.rows.specs.Past.{SameFrom}
+use Rattle.maps.specs.Searching.{StillLent}
+use Rattle.maps.specs.Past.{SameFrom}
 use Rattle.rows.specs.Search.{among}
 use Rattle.rows.specs.Steps.{Stuck}
 use Rattle.rows.specs.View.{rows_of}
 use Rattle.rows.specs.declared.memory.Memory.{Memory}
-use Rattle.rows.proofs.Changes.{past_place, past_by_places, past_trans}
-
-pub cleared_again : (n n' : ℕ) (a b c d : List ℕ) → n' ≡ n → Cleared n a b → SameFrom n b c → Cleared n' c d → Cleared n a d
-cleared_again n n' a b c d e p q r =
-    record {
-      len = r.len ∙ q.len ∙ p.len;
-      low = λ x l. r.low x (omega arith);
-      high = λ x l. r.high x (omega arith) ∙ past_place n b c q x l ∙ p.high x l;
-    }
+use Rattle.maps.proofs.Past.{past_by_places, past_trans}
 
 pub cleared_past : (n n' : ℕ) (a b : List ℕ) → n ≡ n' → Cleared n a b → SameFrom n' a b
 cleared_past n n' a b e p = past_by_places n' a b p.len (λ x l. p.high x (omega arith))

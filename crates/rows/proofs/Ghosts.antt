@@ -4,11 +4,11 @@ use Rattle.maps.specs.Links.{Link}
 use Rattle.crowding.specs.Orientation.{Oriented}
 use Rattle.crowding.specs.Table.{table_rows}
 use Rattle.rows.specs.Keeping.{Keeps, SameShape}
-use Rattle.rows.specs.Past.{SameFrom}
+use Rattle.maps.specs.Past.{SameFrom}
 use Rattle.rows.specs.Sound.{cell, Sound}
 use Rattle.rows.specs.Steps.{SameBesideCells}
 use Rattle.rows.specs.View.{rows_of, Ready, InSize, InNames, InFront}
-use Rattle.rows.proofs.Changes.{past_same, past_trans}
+use Rattle.maps.proofs.Past.{past_same, past_trans}
 use Rattle.rows.specs.declared.link_rows.LinkRows.{LinkRows}
 use Rattle.rows.specs.declared.memory.Memory.{Memory}
 use Rattle.rows.specs.declared.memory.SpaceRecord.{SpaceRecord}

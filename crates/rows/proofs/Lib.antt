@@ -1,5 +1,4 @@
 pub mod Backward
-pub mod Changes
 pub mod Clearing
 pub mod Ending
 pub mod Finding

@@ -5,13 +5,13 @@ use Rattle.std.proofs.lemmas.List.{length-map, get_or-set_same, get_or-set_other
 use Rattle.std.proofs.lemmas.Bool.{cond-true, lt-ltb}
 use Rattle.maps.specs.declared.marks.Marks.{Marks}
 use Rattle.crowding.specs.Orientation.{Rows}
-use Rattle.rows.specs.Past.{SameFrom}
+use Rattle.maps.specs.Past.{SameFrom}
 use Rattle.rows.specs.Search.{among, nth, Search, Grown}
-use Rattle.rows.specs.Lent.{MarksOf}
+use Rattle.maps.specs.Searching.{MarksOf}
 use Rattle.rows.specs.Steps.{seen, Searching, Noted, Kept, WentOn}
 use Rattle.rows.specs.View.{queues, parents, turns, rows_of, queue_of, parent_of, turn_of, Ready}
 use Rattle.rows.specs.declared.memory.Memory.{Memory}
-use Rattle.rows.proofs.Changes.{past_write}
+use Rattle.maps.proofs.Past.{past_write}
 use Rattle.rows.proofs.Ghosts.{ready_written, rows_same}
 use Rattle.rows.proofs.Finding.{size_more, size_le, search_more, grown_more, among_new, among_else}
 

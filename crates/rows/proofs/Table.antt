@@ -11,11 +11,11 @@ use Rattle.std.proofs.ByRecursion.{all-has, kept_by_passes}
 use Rattle.maps.specs.Reading.{row}
 use Rattle.crowding.specs.Putting.{Put}
 use Rattle.crowding.specs.Table.{occupied, table_rows}
-use Rattle.rows.specs.Past.{SameFrom}
+use Rattle.maps.specs.Past.{SameFrom}
 use Rattle.rows.specs.Sound.{cell, FilledFirst, Sound}
 use Rattle.crowding.proofs.Sums.{bit}
 use Rattle.crowding.proofs.Tables.{set_count, set_else, occupied_yes, occupied_no, row_full, row_has}
-use Rattle.rows.proofs.Changes.{past_write, past_trans}
+use Rattle.maps.proofs.Past.{past_write, past_trans}
 
 -- cells of different rows, or at different places of a row, are different
 pub apart : (k v w i j : ℕ) → i < k → j < k → v * k + i ≡ w * k + j → (v ≡ w) × (i ≡ j)

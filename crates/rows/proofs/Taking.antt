@@ -5,13 +5,13 @@ use Rattle.maps.specs.Reading.{row}
 use Rattle.crowding.specs.Orientation.{Rows}
 use Rattle.crowding.specs.Putting.{Put}
 use Rattle.crowding.specs.Table.{table_rows}
-use Rattle.rows.specs.Past.{SameFrom}
+use Rattle.maps.specs.Past.{SameFrom}
 use Rattle.rows.specs.Sound.{cell}
 use Rattle.rows.specs.Steps.{SameBesideCells}
 use Rattle.rows.specs.View.{rows_of, Ready}
 use Rattle.rows.specs.declared.memory.Memory.{Memory}
 use Rattle.rows.proofs.Backward.{row_before}
-use Rattle.rows.proofs.Changes.{past_weaker}
+use Rattle.maps.proofs.Past.{past_weaker}
 use Rattle.rows.proofs.Ghosts.{ready_written}
 use Rattle.rows.proofs.Table.{row_in, found_at, stop, taken, put_out, sound_out, past_out}
 

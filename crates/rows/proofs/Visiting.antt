@@ -10,15 +10,15 @@ use Rattle.crowding.specs.Orientation.{Rows, Oriented}
 use Rattle.crowding.specs.Reach.{Reach}
 use Rattle.crowding.proofs.Tables.{row_full, row_has}
 use Rattle.rows.specs.Keeping.{Keeps, SameShape}
-use Rattle.rows.specs.Lent.{StillLent}
-use Rattle.rows.specs.Past.{SameFrom}
+use Rattle.maps.specs.Searching.{StillLent}
+use Rattle.maps.specs.Past.{SameFrom}
 use Rattle.rows.specs.Search.{among, Grown, Spread}
 use Rattle.rows.specs.Sound.{cell, Sound}
 use Rattle.rows.specs.Steps.{Kept, Searching, WentOn, SpreadOut, ReadTo, Stuck}
 use Rattle.rows.specs.View.{rows_of, queue_of, queued, parent_of, turn_of, Ready}
 use Rattle.rows.specs.declared.memory.Memory.{Memory}
 use Rattle.rows.specs.declared.memory.SpaceRecord.{SpaceRecord}
-use Rattle.rows.proofs.Changes.{past_same, past_trans, past_at}
+use Rattle.maps.proofs.Past.{past_same, past_trans, past_at}
 use Rattle.rows.proofs.Finding.{grown_trans, among_in, spread_grown, tail_le}
 use Rattle.rows.proofs.Ghosts.{keeps_at, rows_same}
 use Rattle.rows.proofs.Table.{row_in, row_cell}

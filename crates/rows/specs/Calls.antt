@@ -4,7 +4,7 @@ use Rattle.maps.specs.Marks.{Cleared}
 use Rattle.maps.specs.Reading.{reading}
 use Rattle.maps.specs.declared.reading.Reading.{Reading}
 use Rattle.rows.specs.Keeping.{Keeps, SameShape, Laid, Reported, Lifted, Tells}
-use Rattle.rows.specs.Past.{SameFrom}
+use Rattle.maps.specs.Past.{SameFrom}
 use Rattle.rows.specs.declared.link_rows.calls.ShortMemory.{ShortMemory as NotEnough}
 use Rattle.rows.specs.declared.link_rows.calls.Refusal.{Refusal}
 use Rattle.rows.specs.declared.link_rows.calls.Refusal.TheVariants.{ShortMemory, EndOutOfRange, EqualEnds, Crowded}

@@ -4,7 +4,7 @@ use Rattle.maps.specs.Density.{Crowded, SmallestOverfull}
 use Rattle.maps.specs.Links.{Link, some_same}
 use Rattle.maps.specs.Sets.{Spaces, bytes}
 use Rattle.crowding.specs.Orientation.{cells, Oriented}
-use Rattle.rows.specs.Past.{SameFrom}
+use Rattle.maps.specs.Past.{SameFrom}
 use Rattle.rows.specs.Sound.{Sound}
 use Rattle.rows.specs.View.{rows_of, Ready}
 use Rattle.rows.specs.declared.memory.Memory.{Memory}

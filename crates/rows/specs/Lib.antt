@@ -2,8 +2,6 @@ pub mod Calls
 pub mod Guarded
 pub mod Keeping
 pub mod LayEnd
-pub mod Lent
-pub mod Past
 pub mod Search
 pub mod Sound
 pub mod Steps

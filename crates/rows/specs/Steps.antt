@@ -7,8 +7,8 @@ use Rattle.crowding.specs.Orientation.{Oriented}
 use Rattle.crowding.specs.Reach.{Reach}
 use Rattle.crowding.specs.Turning.{Turning}
 use Rattle.rows.specs.Keeping.{Keeps}
-use Rattle.rows.specs.Lent.{MarksOf, StillLent}
-use Rattle.rows.specs.Past.{SameFrom}
+use Rattle.maps.specs.Searching.{MarksOf, StillLent}
+use Rattle.maps.specs.Past.{SameFrom}
 use Rattle.rows.specs.Search.{among, Search, Grown, Spread}
 use Rattle.rows.specs.Sound.{cell}
 use Rattle.rows.specs.View.{queues, parents, turns, rows_of, queue_of, parent_of, turn_of}

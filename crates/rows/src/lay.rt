@@ -3,7 +3,7 @@ ghost use Rattle.std.specs.Prelude.{◌≡◌, ℕ, ◌<◌, ◌≤◌, false, l
 ghost use Rattle.rows.specs.Calls.{InsideEnds};
 ghost use Rattle.rows.specs.Keeping.{SameShape};
 ghost use Rattle.rows.specs.LayEnd.{Ends, LayEnd, TwoSpaces};
-ghost use Rattle.rows.specs.Lent.{MarksOf, StillLent};
+ghost use Rattle.maps.specs.Searching.{MarksOf, StillLent};
 ghost use Rattle.rows.specs.Search.{among};
 ghost use Rattle.rows.specs.Steps.{seen};
 ghost use Rattle.rows.specs.View.{rows_of};

@@ -2,7 +2,7 @@
 ghost use Rattle.std.specs.Prelude.{◌≡◌, ℕ, ◌*◌, ◌<◌, ◌≤◌, [], length, slice_index, slice_set};
 ghost use Rattle.rows.specs.Calls.{enough};
 ghost use Rattle.rows.specs.Keeping.{Keeps};
-ghost use Rattle.rows.specs.Past.{SameFrom};
+ghost use Rattle.maps.specs.Past.{SameFrom};
 ghost use Rattle.rows.specs.Steps.{Noted};
 ghost use Rattle.rows.specs.View.{Ready, parents, queues, turns};
 

@@ -1,7 +1,7 @@
 // The search along the rows for a space with a free cell.
 ghost use Rattle.std.specs.Prelude.{◌≡◌, ℕ, ◌+◌, ◌<◌, ◌≤◌, true, false, ◌⊎◌, length, MatchOption};
 ghost use Rattle.rows.specs.LayEnd.{TwoSpaces};
-ghost use Rattle.rows.specs.Lent.{MarksOf};
+ghost use Rattle.maps.specs.Searching.{MarksOf};
 ghost use Rattle.rows.specs.Steps.{Ended, Kept, Searching, Stuck, Trail, Visited, WentOn, seen};
 ghost use Rattle.rows.specs.View.{queued, rows_of};
 ghost use Rattle.std.specs.List.{ContainsAt};

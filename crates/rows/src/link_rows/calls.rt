@@ -4,7 +4,7 @@ ghost use Rattle.rows.specs.Calls.{ClearAnswer, InsideEnds, LayAnswer, LiftAnswe
 ghost use Rattle.rows.specs.Guarded.{LayGuardedAnswer};
 ghost use Rattle.rows.specs.Keeping.{Keeps, OwnLinks};
 ghost use Rattle.rows.specs.LayEnd.{EndsChecked};
-ghost use Rattle.rows.specs.Past.{SameFrom};
+ghost use Rattle.maps.specs.Past.{SameFrom};
 ghost use Rattle.std.specs.Prelude.{◌≡◌, ◌*◌, ◌≤◌, [], length, is_ok, MatchBool};
 
 use crate::link_rows::LinkRows;

@@ -19,7 +19,7 @@ pub returns-then-fresh-sound : goal.returns-then-fresh-sound
 returns-then-fresh-sound g c =
     record {
       read = repeated (c.copy_sound-sound.auto.links ∙ c.requires.size.1) (sound_at c.spaces-n.ensures c.copy_sound-sound.ensures) c.chain_and_search-fresh.ensures.fresh c.if-fresh-sound.true;
-      used = c.chain_and_search-fresh.ensures.used;
+      lent = c.chain_and_search-fresh.ensures.lent;
     }
 
 pub returns-then-sound-links : goal.returns-then-sound-links
@@ -27,7 +27,7 @@ returns-then-sound-links g c =
     let long = c.copy_sound-sound.auto.links ∙ c.requires.size.1 in
     record {
       read = bad_ends long (sound_at c.spaces-n.ensures c.copy_sound-sound.ensures) c.chain_and_search-fresh.ensures.fresh c.end_fault.result c.if-fresh-sound.false (omega (arith, long, c.if-sound-links.true)) (refuses_at _ _ c.end_fault.result c.spaces-n.ensures c.end_fault.ensures);
-      used = c.chain_and_search-fresh.ensures.used;
+      lent = c.chain_and_search-fresh.ensures.lent;
     }
 
 pub returns : goal.returns
@@ -35,5 +35,5 @@ returns g c =
     let long = c.copy_sound-sound.auto.links ∙ c.requires.size.1 in
     record {
       read = all_good long (sound_at c.spaces-n.ensures c.copy_sound-sound.ensures) c.chain_and_search-fresh.ensures.fresh c.if-fresh-sound.false (omega (arith, long, c.if-sound-links.false)) (drop_all c.copy_sound-sound.result c.args.next.now (omega (arith, long, c.if-sound-links.false, c.requires.size.2, c.requires.size.1))) (chains_at c.requires.size.0 c.chain_and_search-fresh.ensures.chains);
-      used = c.chain_and_search-fresh.ensures.used;
+      lent = c.chain_and_search-fresh.ensures.lent;
     }

@@ -1,5 +1,5 @@
 use Rattle.std.proofs.Common.{◌≡◌, length}
-use Rattle.maps.specs.Searching.{Used}
+use Rattle.maps.specs.Searching.{StillLent}
 use Rattle.maps.proofs.Walks.{Marking}
 use Rattle.maps.proofs.repeats.mark_neighbours.Given as goal
 
@@ -8,4 +8,4 @@ invariant-loop-place l =
     (l.place-iterator.chained ≡ l.chained)
     × (l.place-iterator.v ≡ l.v)
     × Marking (length l.chained.head.now) l.chained.links.now l.v l.place-iterator.at l.met.bytes.now
-    × Used l.initial.met l.met
+    × StillLent l.initial.met.n l.initial.met l.met

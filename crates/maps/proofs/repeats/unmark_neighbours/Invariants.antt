@@ -1,5 +1,5 @@
 use Rattle.std.proofs.Common.{◌≡◌, length}
-use Rattle.maps.specs.Searching.{Used}
+use Rattle.maps.specs.Searching.{StillLent}
 use Rattle.maps.proofs.Walks.{Unmarking}
 use Rattle.maps.proofs.repeats.unmark_neighbours.Given as goal
 
@@ -8,4 +8,4 @@ invariant-loop-w l =
     (l.w-iterator.chained ≡ l.chained)
     × (l.w-iterator.v ≡ l.v)
     × Unmarking (length l.chained.head.now) l.chained.links.now l.v l.w-iterator.at l.met.bytes.now
-    × Used l.initial.met l.met
+    × StillLent l.initial.met.n l.initial.met l.met

@@ -1,7 +1,7 @@
 use Rattle.std.proofs.Common.{refl}
 use Rattle.std.proofs.Math.Seq.{map-set_same}
 use Rattle.std.proofs.lemmas.List.{map-set}
-use Rattle.rows.proofs.Changes.{past_write}
+use Rattle.maps.proofs.Past.{past_write}
 use Rattle.rows.proofs.memory.set_trail.Goals as goal
 
 pub returns : goal.returns

@@ -1,7 +1,7 @@
 -- Lists that are equal from some place on.
 use Rattle.std.proofs.Common.{◌≡◌, ℕ, ◌+◌, ◌-◌, ◌<◌, ◌≤◌, List, length, get_or, drop, set, sym, refl, ap, ◌∙◌, subst, arith}
 use Rattle.std.proofs.lemmas.List.{length-set, length-drop, drop-set-lt, drop-drop, get_or-drop, ext_get_or}
-use Rattle.rows.specs.Past.{SameFrom}
+use Rattle.maps.specs.Past.{SameFrom}
 
 pub past_same : {X : Type 0} (i : ℕ) (a : List X) → SameFrom i a a
 past_same i a = record { len = refl; rest = refl }
