@@ -11,7 +11,7 @@ use Rattle.maps.specs.Chains.{touches, other, Next, StepsRound}
 use Rattle.maps.specs.Marks.{marked}
 use Rattle.maps.specs.Past.{SameFrom}
 use Rattle.maps.specs.Repeats.{OnlyMet, NoneMet, FirstRepeatOf, NoRepeatOf, FirstRepeat}
-use Rattle.maps.specs.Searching.{StillLent}
+use Rattle.maps.specs.Searching.{SameMarks, StillLent}
 use Rattle.maps.proofs.Walks.{FirstRepeatBelow, Marking, Unmarking}
 use Rattle.maps.proofs.Chaining.{ends_at}
 use Rattle.maps.proofs.Past.{past_same, past_trans, past_write}
@@ -197,21 +197,22 @@ module _ {n : ℕ} {links : List Link} (v : ℕ) (ends : EndsGood n links) where
 -- the marks in use
 
 pub lent_none : (a : Marks) → StillLent a.n a a
-lent_none a = record { n = refl; same = refl; bytes = past_same a.n a.bytes.now }
+lent_none a = record { same = record { n = refl; same = refl }; bytes = past_same a.n a.bytes.now }
 
-pub lent_again : {a b c : Marks} → StillLent a.n a b → StillLent b.n b c → StillLent a.n a c
-lent_again {a} {b} {c} h k =
+pub lent_trans : {n : ℕ} {a b c : Marks} → StillLent n a b → StillLent n b c → StillLent n a c
+lent_trans {n} {a} {b} {c} h k =
     record {
-      n = k.n ∙ h.n;
-      same = k.same ∙ h.same;
-      bytes = past_trans a.n a.bytes.now b.bytes.now c.bytes.now h.bytes (subst (λ (n : ℕ). SameFrom n b.bytes.now c.bytes.now) h.n k.bytes);
+      same = record { n = k.same.n ∙ h.same.n; same = k.same.same ∙ h.same.same };
+      bytes = past_trans n a.bytes.now b.bytes.now c.bytes.now h.bytes k.bytes;
     }
 
+pub lent_again : {a b c : Marks} → StillLent a.n a b → StillLent b.n b c → StillLent a.n a c
+lent_again {a} {b} {c} h k = lent_trans h (subst (λ (n : ℕ). StillLent n b c) h.same.n k)
+
 -- one byte written, if the space is one of theirs
-pub lent_write : {a b : Marks} (w byte : ℕ) → b.bytes.now ≡ cond (ltb w a.n) (set a.bytes.now w byte) a.bytes.now → b.n ≡ a.n → b.bytes.ghost_name ≡ a.bytes.ghost_name → StillLent a.n a b
-lent_write {a} {b} w byte e n kept =
+pub lent_write : {a b : Marks} (w byte : ℕ) → b.bytes.now ≡ cond (ltb w a.n) (set a.bytes.now w byte) a.bytes.now → SameMarks a b → StillLent a.n a b
+lent_write {a} {b} w byte e kept =
     record {
-      n = n;
       same = kept;
       bytes = elim (cases_lt w a.n) [
         | inl l ↦ subst (λ (ms : List ℕ). SameFrom a.n a.bytes.now ms) (sym (written a.n a.bytes.now b.bytes.now w byte l e)) (past_write a.n a.bytes.now w byte l)

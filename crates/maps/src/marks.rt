@@ -1,4 +1,5 @@
 ghost use Rattle.maps.specs.Marks.{Cleared, marked};
+ghost use Rattle.maps.specs.Searching.{SameMarks};
 ghost use Rattle.std.specs.Prelude.{◌≡◌, ◌&&◌, ltb, length, if◌then◌else◌, ◌==◌, nat_le, nat_lt, slice_set};
 
 // Mark bytes lent for one search over n spaces. However the search ends, the first n are 0 after it.
@@ -47,8 +48,7 @@ impl Marks<'_> {
     // Takes all marks back.
     pub fn unmark_all(&mut self)
         ensures bytes { Cleared self.old.n self.old.bytes.now self.new.bytes.now }
-        ensures n { self.new.n ≡ self.old.n }
-        ensures same { self.new.bytes.ghost_name ≡ self.old.bytes.ghost_name }
+        ensures same { SameMarks self.old self.new }
     {
         let n = self.n;
         clear(self.bytes, n);
@@ -64,8 +64,7 @@ impl Marks<'_> {
     // Writes the byte of a space, if it has one.
     fn write(&mut self, space: usize, byte: u8)
         ensures bytes { self.new.bytes.now ≡ (if ltb space self.old.n then slice_set self.old.bytes.now space byte else self.old.bytes.now) }
-        ensures n { self.new.n ≡ self.old.n }
-        ensures same { self.new.bytes.ghost_name ≡ self.old.bytes.ghost_name }
+        ensures same { SameMarks self.old self.new }
     {
         if space < self.n && space < self.bytes.len() {
             self.bytes[space] = byte;
@@ -75,8 +74,7 @@ impl Marks<'_> {
     // Marks a space.
     pub fn mark(&mut self, space: usize)
         ensures bytes { self.new.bytes.now ≡ (if ltb space self.old.n then slice_set self.old.bytes.now space 1 else self.old.bytes.now) }
-        ensures n { self.new.n ≡ self.old.n }
-        ensures same { self.new.bytes.ghost_name ≡ self.old.bytes.ghost_name }
+        ensures same { SameMarks self.old self.new }
     {
         self.write(space, 1);
     }
@@ -84,8 +82,7 @@ impl Marks<'_> {
     // Takes a mark back.
     pub fn unmark(&mut self, space: usize)
         ensures bytes { self.new.bytes.now ≡ (if ltb space self.old.n then slice_set self.old.bytes.now space 0 else self.old.bytes.now) }
-        ensures n { self.new.n ≡ self.old.n }
-        ensures same { self.new.bytes.ghost_name ≡ self.old.bytes.ghost_name }
+        ensures same { SameMarks self.old self.new }
     {
         self.write(space, 0);
     }

@@ -7,7 +7,7 @@ use Rattle.maps.specs.declared.marks.Marks.{Marks}
 use Rattle.crowding.specs.Orientation.{Rows}
 use Rattle.maps.specs.Past.{SameFrom}
 use Rattle.rows.specs.Search.{among, nth, Search, Grown}
-use Rattle.maps.specs.Searching.{MarksOf}
+use Rattle.maps.specs.Searching.{MarksOf, SameMarks}
 use Rattle.rows.specs.Steps.{seen, Searching, Noted, Kept, WentOn}
 use Rattle.rows.specs.View.{queues, parents, turns, rows_of, queue_of, parent_of, turn_of, Ready}
 use Rattle.rows.specs.declared.memory.Memory.{Memory}
@@ -65,7 +65,7 @@ marked_so n n' x m m' e l h = h ∙ cond-true (ltb x n') (set m x 1) m (lt-ltb x
 
 -- marks for each space, some steps on
 marked_kept : {m m' : Memory} {a b : Marks} → Kept m m' a b → MarksOf m.n a → MarksOf m'.n b
-marked_kept p h = (omega (arith, p.n, h.0, p.lent.n), omega (arith, p.n, p.lent.bytes.len, h.1))
+marked_kept p h = (omega (arith, p.n, h.0, p.lent.same.n), omega (arith, p.n, p.lent.bytes.len, h.1))
 
 -- one space noted, in memory
 module _ {m : Memory} {marks : Marks} {tail : ℕ} (r : Ready m) (s : Searching m marks tail) (x : ℕ) (x_in : x < m.n) (fresh : seen m marks x ≡ false) where
@@ -77,7 +77,7 @@ module _ {m : Memory} {marks : Marks} {tail : ℕ} (r : Ready m) (s : Searching 
     noted_ready = ready_written m m' m.table.now e.n e.k (e.past m.n tail_space x_in).len e.table r r.sound
 
     module _
-        (marks' : Marks) (en : marks'.n ≡ marks.n) (same : marks'.bytes.ghost_name ≡ marks.bytes.ghost_name)
+        (marks' : Marks) (same : SameMarks marks marks')
         (em : marks'.bytes.now ≡ cond (ltb x marks.n) (set marks.bytes.now x 1) marks.bytes.now)
         (why : (tail < 2) ⊎ ((seen m marks p ≡ true) × ContainsAt (rows_of m p) x)) where
       is : marks'.bytes.now ≡ set marks.bytes.now x 1
@@ -100,7 +100,6 @@ module _ {m : Memory} {marks : Marks} {tail : ℕ} (r : Ready m) (s : Searching 
             table = e.table;
             records = e.past m.n tail_space x_in;
             lent = record {
-              n = en;
               same = same;
               bytes = noted_past m.n (rows_of m) marks.bytes.now (queues m.records.now) (parents m.records.now) (turns m.records.now) tail x s.search x_in s.marked.1 fresh marks'.bytes.now is;
             };

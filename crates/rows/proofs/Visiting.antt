@@ -18,13 +18,11 @@ use Rattle.rows.specs.Steps.{Kept, Searching, WentOn, SpreadOut, ReadTo, Stuck}
 use Rattle.rows.specs.View.{rows_of, queue_of, queued, parent_of, turn_of, Ready}
 use Rattle.rows.specs.declared.memory.Memory.{Memory}
 use Rattle.rows.specs.declared.memory.SpaceRecord.{SpaceRecord}
+use Rattle.maps.proofs.Repeating.{lent_trans}
 use Rattle.maps.proofs.Past.{past_same, past_trans, past_at}
 use Rattle.rows.proofs.Finding.{grown_trans, among_in, spread_grown, tail_le}
 use Rattle.rows.proofs.Ghosts.{keeps_at, rows_same}
 use Rattle.rows.proofs.Table.{row_in, row_cell}
-
-pub lent_trans : {n : ℕ} {a b c : Marks} → StillLent n a b → StillLent n b c → StillLent n a c
-lent_trans {n} {a} {b} {c} p q = record { n = q.n ∙ p.n; same = q.same ∙ p.same; bytes = past_trans n a.bytes.now b.bytes.now c.bytes.now p.bytes q.bytes }
 
 pub kept_trans : {m m' m'' : Memory} {a b c : Marks} → Kept m m' a b → Kept m' m'' b c → Kept m m'' a c
 kept_trans {m} {m'} {m''} {a} {b} {c} p q =

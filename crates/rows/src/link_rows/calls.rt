@@ -4,7 +4,7 @@ ghost use Rattle.rows.specs.Calls.{ClearAnswer, InsideEnds, LayAnswer, LiftAnswe
 ghost use Rattle.rows.specs.Guarded.{LayGuardedAnswer};
 ghost use Rattle.rows.specs.Keeping.{Keeps, OwnLinks};
 ghost use Rattle.rows.specs.LayEnd.{EndsChecked};
-ghost use Rattle.maps.specs.Past.{SameFrom};
+ghost use Rattle.maps.specs.Searching.{StillLent};
 ghost use Rattle.std.specs.Prelude.{◌≡◌, ◌*◌, ◌≤◌, [], length, is_ok, MatchBool};
 
 use crate::link_rows::LinkRows;
@@ -124,9 +124,7 @@ impl<'a> LinkRows<'a> {
         marks: &mut Marks<'_>,
     ) -> Result<(), Refusal>
         ensures answer { LayGuardedAnswer self.old.memory self.new.memory a b members.old members.new marks.old marks.new result }
-        ensures marks { SameFrom self.old.memory.n marks.old.bytes.now marks.new.bytes.now }
-        ensures n { marks.new.n ≡ marks.old.n }
-        ensures same { marks.new.bytes.ghost_name ≡ marks.old.bytes.ghost_name }
+        ensures marks { StillLent self.old.memory.n marks.old marks.new }
     {
         let n = self.memory.n;
         if members.len() < n || !marks.covers(n) {

@@ -17,6 +17,6 @@ loop-place-preserved c =
     let told = round_step c.loop-place.place-iterator.at c.next.new.self.at (Some (c.in-Some.place, c.in-Some.w)) ch v step in (
       ch' ∙ ch,
       v' ∙ v,
-      marking_step _ c.args.chained.now.ends walk told.0 told.2 (lent.n ∙ c.requires.marks.0) _ c.is_marked.ensures c.if-is_marked.false (omega (arith, c.requires.marks.1, lent.bytes.len)) c.mark.ensures.bytes told.3,
-      lent_again lent (lent_write _ _ c.mark.ensures.bytes c.mark.ensures.n c.mark.ensures.same),
+      marking_step _ c.args.chained.now.ends walk told.0 told.2 (lent.same.n ∙ c.requires.marks.0) _ c.is_marked.ensures c.if-is_marked.false (omega (arith, c.requires.marks.1, lent.bytes.len)) c.mark.ensures.bytes told.3,
+      lent_again lent (lent_write _ _ c.mark.ensures.bytes c.mark.ensures.same),
     )

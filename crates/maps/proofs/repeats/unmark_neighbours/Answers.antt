@@ -14,6 +14,6 @@ loop-w-preserved c =
     let told = round_step c.loop-w.w-iterator.at c.next.new.self.at (Some (c.in-Some.field-0-0, c.in-Some.w)) ch v step in (
       ch' ∙ ch,
       v' ∙ v,
-      unmarking_step _ c.args.chained.now.ends walk told.0 told.2 (lent.n ∙ c.requires.marks.0) (omega (arith, c.requires.marks.1, lent.bytes.len)) c.unmark.ensures.bytes told.3,
-      lent_again lent (lent_write _ _ c.unmark.ensures.bytes c.unmark.ensures.n c.unmark.ensures.same),
+      unmarking_step _ c.args.chained.now.ends walk told.0 told.2 (lent.same.n ∙ c.requires.marks.0) (omega (arith, c.requires.marks.1, lent.bytes.len)) c.unmark.ensures.bytes told.3,
+      lent_again lent (lent_write _ _ c.unmark.ensures.bytes c.unmark.ensures.same),
     )

@@ -20,4 +20,4 @@ returns-in-Some-clause-answer c =
     )
 
 pub returns-clause-marks : goal.returns-clause-marks
-returns-clause-marks c = search (rules, searched_marks)
+returns-clause-marks c = record { same = record { n = search rules; same = search rules }; bytes = search (rules, searched_marks) }

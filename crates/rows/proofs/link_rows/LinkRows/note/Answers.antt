@@ -25,7 +25,7 @@ invariant_of-self c =
 pub returns : goal.returns
 returns c =
     let e = c.mark.ensures in
-    let f = noted (ready_of c.args.self.now) c.requires.searching c.args.x c.requires.inside c.requires.fresh c.note_found.ensures c.mark.new.self e.n e.same e.bytes c.requires.why in
+    let f = noted (ready_of c.args.self.now) c.requires.searching c.args.x c.requires.inside c.requires.fresh c.note_found.ensures c.mark.new.self e.same e.bytes c.requires.why in
     record {
       kept = f.0;
       searching = f.1;
