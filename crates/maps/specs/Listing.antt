@@ -2,11 +2,11 @@
 use Rattle.std.specs.Prelude.{◌≡◌, ℕ, ◌<◌, ◌≤◌, ◌⊎◌, List, [], ◌∷◌, length, get_or, take, drop, Some, None, Result, ◌≢◌, slice_index_or}
 use Rattle.maps.specs.declared.refusals.ListRefusal.{ListRefusal}
 use Rattle.maps.specs.Links.{Link, Meaning}
-use Rattle.maps.specs.Checks.{Check, decided}
+use Rattle.maps.specs.Checks.{Check, Accepted, decided}
 use Rattle.maps.specs.LinkChecks.{at_place, FirstBadLink, AllLinksGood}
 use Rattle.maps.specs.Chains.{Chains}
 use Rattle.maps.specs.Marks.{Cleared}
-use Rattle.maps.specs.Refusals.{list_number, list_place, ListRefused, ListAccepted}
+use Rattle.maps.specs.Refusals.{list_number, list_place, ListRefused}
 
 -- a map has 1 to 4,096 spaces and at most 32,768 links
 abbrev pub TooLarge : (spaces links : ℕ) → Type 0
@@ -27,9 +27,6 @@ TooShort n m lent = (length lent.marks < n) ⊎ ((length lent.links < m) ⊎ ((l
 abbrev pub list_row : (spaces links : ℕ) → Lent → List Check
 list_row n m lent = (10, TooLarge n m) ∷ ((21, TooShort n m lent) ∷ [])
 
-abbrev pub Decides : List Check → Result (Unit {0}) ListRefusal → Type 0
-Decides checks r = decided checks (λ number. ListRefused r number None) (ListAccepted r)
-
 -- the ends of a link are not two different spaces below n
 abbrev pub BadEnds : ℕ → Link → Type 0
 BadEnds n l = (n ≤ l.0) ⊎ ((n ≤ l.1) ⊎ (l.0 ≡ l.1))
@@ -49,7 +46,7 @@ pub record SoundTo (n : ℕ) (list copy : List Link) (p : ℕ) : Type 0 where
 abbrev pub ReadList : ℕ → List Link → (links : List Link) (head : List ℕ) (next : List Link) → Result (Unit {0}) ListRefusal → Type 0
 ReadList n list links head next r =
     ((p : ℕ) × (number : ℕ) × FirstBadLink n list p number × ListRefused r number (Some p))
-    ⊎ (AllLinksGood n list × ListAccepted r × (links ≡ list) × Chains n list head next 0)
+    ⊎ (AllLinksGood n list × Accepted r × (links ≡ list) × Chains n list head next 0)
 
 -- Memory past what is used stays as it was. The used parts of links, head and next are working memory: they hold the list only where it is accepted.
 pub record KeptPast (n m : ℕ) (lent left : Lent) : Type 0 where

@@ -1,5 +1,6 @@
 -- The numbers of the refusals. Assumes nothing.
-use Rattle.std.specs.Prelude.{◌≡◌, ℕ, Some, None, Ok, Err, Option, Result}
+use Rattle.std.specs.Prelude.{ℕ, Some, None, Option, Result}
+use Rattle.maps.specs.Checks.{Refused}
 use Rattle.maps.specs.declared.refusals.ListRefusal.{ListRefusal}
 use Rattle.maps.specs.declared.refusals.ListRefusal.TheVariants.{ShortMemory, EndOutOfRange, EqualEnds, RepeatedLink}
 use Rattle.maps.specs.declared.refusals.ListRefusal.TheVariants as list
@@ -34,10 +35,4 @@ list_place (RepeatedLink place) = Some place
 
 -- the call was refused with this number, at this place if there is one
 abbrev pub ListRefused : Result (Unit {0}) ListRefusal → ℕ → Option ℕ → Type 0
-ListRefused (Ok x) number place = ⊥
-ListRefused (Err e) number place = (list_number e ≡ number) × (list_place e ≡ place)
-
--- the call was accepted
-abbrev pub ListAccepted : Result (Unit {0}) ListRefusal → Type 0
-ListAccepted (Ok x) = Unit {0}
-ListAccepted (Err e) = ⊥
+ListRefused = Refused list_number list_place

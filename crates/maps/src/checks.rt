@@ -1,7 +1,9 @@
 ghost use Rattle.std.specs.Prelude.{◌≡◌, ℕ, ◌<◌, ◌≤◌, length, slice_index_or};
 ghost use Rattle.maps.specs.Links.{pair_at};
+ghost use Rattle.maps.specs.Checks.{Decides};
 ghost use Rattle.maps.specs.ListMemory.{SameMemory, contents};
-ghost use Rattle.maps.specs.Listing.{BadEnds, Decides, Listed, ReadInto, ReadList, RefusesAt, SoundTo, TooLarge, TooShort, list_row};
+ghost use Rattle.maps.specs.Listing.{BadEnds, Listed, ReadInto, ReadList, RefusesAt, SoundTo, TooLarge, TooShort, list_row};
+ghost use Rattle.maps.specs.Refusals.{list_number, list_place};
 ghost use Rattle.maps.specs.Repeats.{NoneMet};
 ghost use Rattle.maps.specs.Searching.{MarksOf, StillLent};
 
@@ -13,7 +15,7 @@ use crate::source::Map;
 
 // A map's size and the memory lent for its links.
 fn check_room(spaces: u32, links: u32, memory: &ListMemory<'_>) -> Result<(), ListRefusal>
-    ensures { Decides (list_row spaces links (contents memory.now)) result }
+    ensures { Decides list_number list_place (list_row spaces links (contents memory.now)) result }
 {
     if spaces < 1 || spaces > 4096 || links > 32768 {
         return Err(ListRefusal::SizeOutOfRange);

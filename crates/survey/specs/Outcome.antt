@@ -3,7 +3,7 @@ use Rattle.std.specs.Prelude.{◌≡◌, ℕ, ◌*◌, ◌<◌, ◌⊎◌, List,
 use Rattle.maps.specs.Links.{Link, Meaning}
 use Rattle.maps.specs.Sets.{Spaces, bytes}
 use Rattle.maps.specs.Density.{Dense, LargestThick}
-use Rattle.maps.specs.Checks.{Check, decided}
+use Rattle.maps.specs.Checks.{Check, Accepted, decided}
 use Rattle.maps.specs.LinkChecks.{FirstBadLink, AllLinksGood}
 use Rattle.maps.specs.Listing.{TooLarge}
 use Rattle.maps.specs.Marks.{Cleared}
@@ -11,7 +11,7 @@ use Rattle.survey.specs.declared.refusals.SurveyRefusal.{SurveyRefusal}
 use Rattle.survey.specs.Orders.{Ordering}
 use Rattle.survey.specs.Tables.{Table, OneCell, CellsAreLinks}
 use Rattle.survey.specs.Colours.{OneColour, NoRing}
-use Rattle.survey.specs.Refusals.{Refused, Accepted}
+use Rattle.survey.specs.Refusals.{Refused}
 
 -- the memory lent to a survey
 pub record Lent : Type 0 where

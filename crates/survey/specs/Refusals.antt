@@ -1,6 +1,7 @@
 -- The numbers of the refusals, and the places that they name. Assumes nothing.
-use Rattle.std.specs.Prelude.{◌≡◌, ℕ, List, ◌++◌, codes, Some, None, Ok, Err, Option, Result}
+use Rattle.std.specs.Prelude.{ℕ, List, ◌++◌, codes, Some, None, Option, Result}
 use Rattle.std.specs.Fmt.{decimal}
+use Rattle.maps.specs.Checks as check
 use Rattle.maps.specs.declared.refusals.ListRefusal.{ListRefusal}
 use Rattle.maps.specs.declared.refusals.ListRefusal.TheVariants as list
 use Rattle.survey.specs.declared.refusals.SurveyRefusal.{SurveyRefusal}
@@ -47,13 +48,7 @@ from_list (list.RepeatedLink place) = survey.RepeatedLink place
 
 -- the survey was refused with this number, at this place if there is one
 abbrev pub Refused : Result (Unit {0}) SurveyRefusal → ℕ → Option ℕ → Type 0
-Refused (Ok x) number place = ⊥
-Refused (Err e) number place = (survey_number e ≡ number) × (survey_place e ≡ place)
-
--- the survey was accepted
-abbrev pub Accepted : Result (Unit {0}) SurveyRefusal → Type 0
-Accepted (Ok x) = Unit {0}
-Accepted (Err e) = ⊥
+Refused = check.Refused survey_number survey_place
 
 -- a look-up on a surveyed table
 abbrev pub look_up_number : LookUpRefusal → ℕ

@@ -1,9 +1,11 @@
 ghost use Rattle.std.specs.Prelude.{◌≡◌, ◌*◌, ◌≤◌, length, nat_lt, slice_index};
+ghost use Rattle.maps.specs.Checks.{Decides};
 ghost use Rattle.maps.specs.LinkChecks.{GoodLinks};
 ghost use Rattle.maps.specs.Marks.{Cleared};
 ghost use Rattle.maps.specs.Sets.{bytes};
 ghost use Rattle.survey.specs.Outcome.{ReadMap, Short, Surveyed, survey_row};
-ghost use Rattle.survey.specs.Parts.{Decides, Parts};
+ghost use Rattle.survey.specs.Parts.{Parts};
+ghost use Rattle.survey.specs.Refusals.{survey_number, survey_place};
 ghost use Rattle.survey.specs.SurveyMemory.{SameMemory, contents};
 
 use crate::fill::fill_table;
@@ -68,7 +70,7 @@ fn check_call(
     depth: u16,
     memory: &SurveyMemory<'_>,
 ) -> Result<(), SurveyRefusal>
-    ensures { Decides (survey_row spaces links depth (contents memory.now)) result }
+    ensures { Decides survey_number survey_place (survey_row spaces links depth (contents memory.now)) result }
 {
     if depth < 1 || depth > 8 {
         return Err(SurveyRefusal::DepthOutOfRange);
