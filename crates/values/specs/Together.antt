@@ -81,17 +81,17 @@ goods_undo v =
     four_columns (λ cs. Held cs → goods_columns_of (goods_text cs) ≡ cs) goods_back v.columns.numbers v.columns.full v.columns.held
 
 -- the same columns, or the same text, are the same value
-columns_of : (n : ℕ) (zs : List ℤ) → (length zs ≡ n) × Held zs → Columns n
-columns_of n zs p = record { numbers = zs; full = p.0; held = p.1 }
+columns_with : (n : ℕ) (zs : List ℤ) → (length zs ≡ n) × Held zs → Columns n
+columns_with n zs p = record { numbers = zs; full = p.0; held = p.1 }
 
 one_way : (n : ℕ) (zs : List ℤ) → IsProp ((length zs ≡ n) × Held zs)
 one_way n zs = ×_prop (ℕ_set _ _) (Held-prop zs)
 
 same_columns : (n : ℕ) (c d : Columns n) → c.numbers ≡ d.numbers → c ≡ d
-unfolding columns_of
+unfolding columns_with
 same_columns n c d e =
-    let P : List ℤ → Type 0 = λ z. (q : (length z ≡ n) × Held z) → c ≡ columns_of n z q in
-    subst P e (λ q. ap (columns_of n c.numbers) (one_way n c.numbers (c.full, c.held) q)) (d.full, d.held)
+    let P : List ℤ → Type 0 = λ z. (q : (length z ≡ n) × Held z) → c ≡ columns_with n z q in
+    subst P e (λ q. ap (columns_with n c.numbers) (one_way n c.numbers (c.full, c.held) q)) (d.full, d.held)
 
 points_with : Columns 1 → Points
 points_with a = record { columns = a }

@@ -69,7 +69,7 @@ impl<const N: usize> Columns<N> {
         self.numbers[place]
     }
 
-    // Two, not one over the operation: that needs two `requires` on all pairs and a ghost function picked at each call.
+    // Two, not one over the operation: its two `requires` on all pairs and its ghost pick are longer.
 
     // The sum, column by column; absent if a column would leave the range.
     pub(crate) fn sum(&self, other: &Columns<N>) -> Option<Columns<N>>
