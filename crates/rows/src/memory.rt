@@ -1,6 +1,5 @@
 // The lent memory.
 ghost use Rattle.std.specs.Prelude.{◌≡◌, ℕ, ◌*◌, ◌<◌, ◌≤◌, [], length, slice_index, slice_set};
-ghost use Rattle.rows.specs.Calls.{enough};
 ghost use Rattle.rows.specs.Keeping.{Keeps};
 ghost use Rattle.maps.specs.Past.{SameFrom};
 ghost use Rattle.rows.specs.Steps.{Noted};
@@ -59,13 +58,6 @@ fn empty_cells(table: &mut [u16], count: usize)
 }
 
 impl Memory<'_> {
-    // Whether there are records and cells enough for `n` spaces and `k` cells to each.
-    pub(crate) fn is_enough(&self, n: usize, k: usize) -> bool
-        ensures { result ≡ enough n k (length self.now.records.now) (length self.now.table.now) }
-    {
-        n <= 4096 && k <= 8 && n <= self.records.len() && n * k <= self.table.len()
-    }
-
     // Empties the rows of `n` spaces, `k` cells to each.
     pub(crate) fn clear(&mut self, n: usize, k: usize)
         requires small { (n ≤ 4096) × (k ≤ 8) }

@@ -71,10 +71,10 @@ impl LinkRows<'_> {
         let mut head = 0;
         let mut tail = 2;
         while let Some(v) = self.next_found(head, tail) {
-            match self.visit_row(marks, v, tail) {
-                Some(found) => tail = found,
-                None => return Some(v),
-            }
+            let Some(found) = self.visit_row(marks, v, tail) else {
+                return Some(v);
+            };
+            tail = found;
             head += 1;
         }
         None

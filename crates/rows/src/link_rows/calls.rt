@@ -61,7 +61,7 @@ impl<'a> LinkRows<'a> {
     pub fn is_enough(&self, n: usize, k: usize) -> bool
         ensures { result ≡ enough n k (length self.now.memory.records.now) (length self.now.memory.table.now) }
     {
-        self.memory.is_enough(n, k)
+        n <= 4096 && k <= 8 && n <= self.memory.records.len() && n * k <= self.memory.table.len()
     }
 
     // Begins anew with `n` spaces, `k` cells to each, and no link. Refused, and nothing changed, if the memory is not enough.
@@ -69,7 +69,7 @@ impl<'a> LinkRows<'a> {
         ensures when { is_ok result ≡ enough n k (length self.old.memory.records.now) (length self.old.memory.table.now) }
         ensures answer { ClearAnswer self.old.memory self.new.memory n k result }
     {
-        if !self.memory.is_enough(n, k) {
+        if !self.is_enough(n, k) {
             return Err(ShortMemory);
         }
         self.memory.clear(n, k);

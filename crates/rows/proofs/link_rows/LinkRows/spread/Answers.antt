@@ -8,29 +8,23 @@ next_found-requires c =
     let i = c.loop-v.invariant in
     tail_room i.0 (ready_of c.args.self.now) c.loop-v.tail i.1
 
-pub visit_row-requires : goal.visit_row-requires
-visit_row-requires c =
+pub visit_row-requires-clause-found : goal.visit_row-requires-clause-found
+visit_row-requires-clause-found c =
     let i = c.loop-v.invariant in
     let h = c.in-Some.ensures in
-    record {
-      searching = i.1;
-      found = head_found i.0 (ready_of c.args.self.now) c.loop-v.tail i.1 c.loop-v.head c.in-Some.v h.0 h.1;
-    }
+    head_found i.0 (ready_of c.args.self.now) c.loop-v.tail i.1 c.loop-v.head c.in-Some.v h.0 h.1
 
-pub returns-in-None : goal.returns-in-None
-returns-in-None c =
+pub returns-in_default-visit_row-clause-ended : goal.returns-in_default-visit_row-clause-ended
+returns-in_default-visit_row-clause-ended c =
     let i = c.loop-v.invariant in
     let h = c.in-Some.ensures in
-    let e = c.in-None.ensures in
+    let e = c.in_default-visit_row.ensures in
     record {
-      kept = kept_trans i.0 e.kept;
-      ended = record {
-        tail = e.visited.found;
-        searching = e.visited.searching;
-        grown = went_on_trans i.0 e.kept i.2 e.visited.grown;
-        answer = found_free e.kept c.in-Some.v c.loop-v.tail e.visited.found e.visited.grown
-            (head_found i.0 (ready_of c.args.self.now) c.loop-v.tail i.1 c.loop-v.head c.in-Some.v h.0 h.1) e.visited.answer;
-      };
+      tail = e.visited.found;
+      searching = e.visited.searching;
+      grown = went_on_trans i.0 e.kept i.2 e.visited.grown;
+      answer = found_free e.kept c.in-Some.v c.loop-v.tail e.visited.found e.visited.grown
+          (head_found i.0 (ready_of c.args.self.now) c.loop-v.tail i.1 c.loop-v.head c.in-Some.v h.0 h.1) e.visited.answer;
     }
 
 pub loop-v-smaller : goal.loop-v-smaller
@@ -55,15 +49,12 @@ loop-v-preserved c =
       omega (arith, e.visited.grown.more, h.0),
     )
 
-pub returns : goal.returns
-returns c =
+pub returns-clause-ended : goal.returns-clause-ended
+returns-clause-ended c =
     let i = c.loop-v.invariant in
     record {
-      kept = i.0;
-      ended = record {
-        tail = c.loop-v.tail;
-        searching = i.1;
-        grown = i.2;
-        answer = λ x l. i.3 x (omega (arith, c.in_default.ensures));
-      };
+      tail = c.loop-v.tail;
+      searching = i.1;
+      grown = i.2;
+      answer = λ x l. i.3 x (omega (arith, c.in_default.ensures));
     }

@@ -12,28 +12,29 @@ bounds-self-from c =
     let i = c.loop-j.invariant in
     cell_at i.0 (ready_of c.args.self.now) c.args.v c.loop-j.j (omega arith) c.requires.found
 
-pub returns-then-c : goal.returns-then-c
-returns-then-c c =
+pub returns-then-c-clause-visited : goal.returns-then-c-clause-visited
+returns-then-c-clause-visited c =
     let i = c.loop-j.invariant in
     record {
-      kept = i.0;
-      visited = record {
-        found = c.loop-j.tail;
-        searching = i.1;
-        grown = i.2;
-        answer = cell_free i.0 (ready_of c.args.self.now) c.args.v c.loop-j.j c.loop-j-test.true c.requires.found c.if-c.true;
-      };
+      found = c.loop-j.tail;
+      searching = i.1;
+      grown = i.2;
+      answer = cell_free i.0 (ready_of c.args.self.now) c.args.v c.loop-j.j c.loop-j-test.true c.requires.found c.if-c.true;
     }
 
-pub note-requires : goal.note-requires
-note-requires c =
+pub note-requires-clause-inside : goal.note-requires-clause-inside
+note-requires-clause-inside c =
+    cell_in c.loop-j.invariant.0 (ready_of c.args.self.now) c.args.v c.loop-j.j c.loop-j-test.true c.requires.found c.if-c.false
+
+pub note-requires-clause-fresh : goal.note-requires-clause-fresh
+note-requires-clause-fresh c =
     let i = c.loop-j.invariant in
-    record {
-      searching = i.1;
-      inside = cell_in i.0 (ready_of c.args.self.now) c.args.v c.loop-j.j c.loop-j-test.true c.requires.found c.if-c.false;
-      fresh = cell_seen i.0 (ready_of c.args.self.now) c.args.v c.loop-j.j c.loop-j-test.true c.requires.found c.loop-j.marks.n c.is_marked.result i.1.marked.0 c.is_marked.ensures ∙ c.if-not-is_marked.true;
-      why = inr (cell_why i.0 (ready_of c.args.self.now) c.args.v c.loop-j.j c.loop-j-test.true c.requires.found c.if-c.false c.args.tail c.loop-j.tail i.2);
-    }
+    cell_seen i.0 (ready_of c.args.self.now) c.args.v c.loop-j.j c.loop-j-test.true c.requires.found c.loop-j.marks.n c.is_marked.result i.1.marked.0 c.is_marked.ensures ∙ c.if-not-is_marked.true
+
+pub note-requires-clause-why : goal.note-requires-clause-why
+note-requires-clause-why c =
+    let i = c.loop-j.invariant in
+    inr (cell_why i.0 (ready_of c.args.self.now) c.args.v c.loop-j.j c.loop-j-test.true c.requires.found c.if-c.false c.args.tail c.loop-j.tail i.2)
 
 pub overflow_add-tail : goal.overflow_add-tail
 overflow_add-tail c =
@@ -64,15 +65,12 @@ loop-j-preserved c =
           )
     ]
 
-pub returns : goal.returns
-returns c =
+pub returns-clause-visited : goal.returns-clause-visited
+returns-clause-visited c =
     let i = c.loop-j.invariant in
     record {
-      kept = i.0;
-      visited = record {
-        found = c.loop-j.tail;
-        searching = i.1;
-        grown = i.2;
-        answer = (refl, λ x l. i.3 x (omega arith));
-      };
+      found = c.loop-j.tail;
+      searching = i.1;
+      grown = i.2;
+      answer = (refl, λ x l. i.3 x (omega arith));
     }
