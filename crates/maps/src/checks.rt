@@ -1,4 +1,4 @@
-ghost use Rattle.std.specs.Prelude.{◌≡◌, ℕ, ◌<◌, ◌≤◌, length, slice_index_or};
+ghost use Rattle.std.specs.Prelude.{◌≡◌, ℕ, ◌<◌, ◌≤◌, ◌↔◌, length, IsTrue, slice_index_or};
 ghost use Rattle.maps.specs.Links.{pair_at};
 ghost use Rattle.maps.specs.Checks.{Decides};
 ghost use Rattle.maps.specs.ListMemory.{SameMemory, contents};
@@ -13,11 +13,18 @@ use crate::refusals::ListRefusal;
 use crate::repeats::chain_and_search;
 use crate::source::Map;
 
+// Whether a map has no space, or more spaces or links than are allowed.
+pub fn is_too_large(spaces: u32, links: u32) -> bool
+    ensures { IsTrue result ↔ TooLarge spaces links }
+{
+    spaces < 1 || spaces > 4096 || links > 32768
+}
+
 // A map's size and the memory lent for its links.
 fn check_room(spaces: u32, links: u32, memory: &ListMemory<'_>) -> Result<(), ListRefusal>
     ensures { Decides list_number list_place (list_row spaces links (contents memory.now)) result }
 {
-    if spaces < 1 || spaces > 4096 || links > 32768 {
+    if is_too_large(spaces, links) {
         return Err(ListRefusal::SizeOutOfRange);
     }
     let n = spaces as usize;
@@ -34,7 +41,7 @@ fn check_room(spaces: u32, links: u32, memory: &ListMemory<'_>) -> Result<(), Li
     Ok(())
 }
 
-// Copies a map's links, as long as their ends are two different spaces below n. How many were copied.
+// Copies a map's links, as long as their ends are two different spaces below n. How many were copied: a length, by which the caller goes on.
 fn copy_sound<M: Map>(map: &M, n: u32, links: &mut [(u16, u16)]) -> usize
     requires { (length links.old ≡ length (M.meaning map.now).links) × (length links.old ≤ 32768) }
     ensures { SoundTo n (M.meaning map.now).links links.new result }

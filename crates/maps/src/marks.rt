@@ -3,6 +3,7 @@ ghost use Rattle.maps.specs.Searching.{SameMarks};
 ghost use Rattle.std.specs.Prelude.{◌≡◌, ◌&&◌, ltb, length, if◌then◌else◌, ◌==◌, nat_le, nat_lt, slice_set};
 
 // Mark bytes lent for one search over n spaces. However the search ends, the first n are 0 after it.
+// `n` stays beside the bytes: the guard tells for how many spaces it was made, and fewer bytes may be lent.
 pub struct Marks<'a> {
     bytes: &'a mut [u8],
     n: usize,

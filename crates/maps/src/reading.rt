@@ -1,10 +1,10 @@
 ghost use Rattle.std.specs.Prelude.{◌≡◌, ◌+◌, ◌*◌, ◌≤◌, length};
 ghost use Rattle.maps.specs.Reading.{reading, reading_rows, row};
 
-// What an empty cell of a table holds.
+// What an empty cell of a table holds. No Option: clients read the table as plain numbers.
 pub const EMPTY: u16 = 65_535;
 
-// Whether a link is in a table, and how many cells were read to tell.
+// Whether a link is in a table, and how many cells were read to tell. No Option: cells are read either way.
 #[derive(Clone, Copy, Debug, PartialEq, Eq)]
 pub struct Reading {
     pub linked: bool,

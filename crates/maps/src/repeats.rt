@@ -36,7 +36,7 @@ fn unmark_neighbours(chained: &Chained<'_>, v: u16, met: &mut Marks<'_>)
     }
 }
 
-// How many links stand before the first that repeats an earlier one. All, where none does.
+// How many links stand before the first that repeats an earlier one. All, where none does: of all spaces the least count is the reply, so it is no Option.
 fn count_fresh(chained: &Chained<'_>, met: &mut Marks<'_>) -> usize
     requires few { length chained.now.head.now ≤ 4096 }
     requires marks { MarksOf (length chained.now.head.now) met.old }

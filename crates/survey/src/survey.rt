@@ -13,7 +13,7 @@ use crate::memory::SurveyMemory;
 use crate::peel::peel;
 use crate::refusals::SurveyRefusal;
 use maps::chains::Chained;
-use maps::checks::check_links;
+use maps::checks::{check_links, is_too_large};
 use maps::memory::ListMemory;
 use maps::reading::EMPTY;
 use maps::source::Map;
@@ -75,7 +75,7 @@ fn check_call(
     if depth < 1 || depth > 8 {
         return Err(SurveyRefusal::DepthOutOfRange);
     }
-    if spaces < 1 || spaces > 4096 || links > 32768 {
+    if is_too_large(spaces, links) {
         return Err(SurveyRefusal::SizeOutOfRange);
     }
     let n = spaces as usize;
