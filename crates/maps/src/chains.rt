@@ -72,7 +72,7 @@ impl Iterator for Round<'_> {
     }
 }
 
-// Chains the links of each space in list order. By place: from the back, and what is written stands at the same place in `next`.
+// Chains the links of each space in list order. By place: from the back, and what is written stands at the same place in `next`. The three parts are one `Chained` from then on.
 pub(crate) fn chain(links: &[(u16, u16)], head: &mut [u16], next: &mut [(u16, u16)])
     requires ends { EndsGood (length head.old) links.now }
     requires room { (length next.old ≡ length links.now) × (length links.now ≤ 32768) }

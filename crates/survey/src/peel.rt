@@ -67,7 +67,7 @@ fn count_links(links: &[(u16, u16)], degree: &mut [u16])
     }
 }
 
-// Puts the spaces of degree at most `k` at the end of the order. Where they begin.
+// Puts the spaces of degree at most `k` at the end of the order. Where they begin: the queue lies in the order, so that no call uses the heap.
 fn seed(k: u16, degree: &[u16], order: &mut [u16]) -> usize
     requires room { (length degree.now ≡ length order.old) × (length order.old ≤ 4096) }
     ensures { Queue k (length order.old) order.new degree.now result }

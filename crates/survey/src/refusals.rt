@@ -5,7 +5,7 @@ ghost use Rattle.survey.specs.Refusals.{from_list, look_up_number, survey_number
 use maps::refusals::ListRefusal;
 use std::fmt;
 
-// Why a map is not surveyed. A place counts from 0 in the map's list of links.
+// Why a map is not surveyed. A place counts from 0 in the map's list of links. One flat enum, with the cases of a list's refusal again: a caller matches one level.
 #[derive(Clone, Copy, Debug, PartialEq, Eq)]
 pub enum SurveyRefusal {
     DepthOutOfRange,
