@@ -19,7 +19,7 @@ pub fn put(print: &mut [u8], at: usize, text: &[u8]) -> usize
     end
 }
 
-// Writes a text and one byte more, if there is room for both.
+// Writes a text and one byte more, if there is room for both, and answers as `put`: the calls below hand it on. One test for both, so that nothing is written where only the text fits.
 fn put_ended(print: &mut [u8], at: usize, text: &[u8], last: u8) -> usize
     ensures { Puts print.old at (text.now ++ (last ∷ [])) result print.new }
 {

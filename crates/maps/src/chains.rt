@@ -45,10 +45,10 @@ impl<'a> Chained<'a> {
         ensures v { result.v ≡ v }
         ensures first { Next self.now.links.now v 0 result.at }
     {
-        let at = match self.head.get(v as usize) {
-            Some(p) => *p as usize,
-            None => self.links.len(),
-        };
+        let at = self
+            .head
+            .get(v as usize)
+            .map_or(self.links.len(), |p| *p as usize);
         Round {
             chained: *self,
             v,

@@ -58,7 +58,7 @@ fn copy_sound<M: Map>(map: &M, n: u32, links: &mut [(u16, u16)]) -> usize
     links.len()
 }
 
-// Why the link at a place is refused whose ends are not two different spaces below n.
+// Why the link at a place is refused whose ends are not two different spaces below n. The pair is asked for again, since what was copied is told as a length.
 fn end_fault<M: Map>(map: &M, n: u32, place: usize) -> ListRefusal
     requires { (place < length (M.meaning map.now).links) × (place ≤ 32768) × BadEnds n (slice_index_or (M.meaning map.now).links place (0, 0)) }
     ensures { RefusesAt n (M.meaning map.now).links place result }
@@ -87,10 +87,9 @@ fn check_parts<M: Map>(
 {
     let n = map.spaces();
     let sound = copy_sound(map, n, links);
-    let fresh = chain_and_search(&links[..sound], head, &mut next[..sound], met);
-    if fresh < sound {
+    if let Some(place) = chain_and_search(&links[..sound], head, &mut next[..sound], met) {
         return Err(ListRefusal::RepeatedLink {
-            place: fresh as u32,
+            place: place as u32,
         });
     }
     if sound < links.len() {

@@ -31,7 +31,7 @@ fn count_links(ends: &[u16]) -> u32
     u32::try_from(ends.len() / 2).unwrap_or(u32::MAX)
 }
 
-// The pair at a place: the numbers from there on, taken apart as first end, second end, rest.
+// The pair at a place: the numbers from there on, taken apart as first end, second end, rest, as was asked for. A list has at most u32::MAX links.
 fn pair_from(ends: &[u16], place: u32) -> Option<(u16, u16)>
     ensures { result ≡ pair_at (drawn_links ends.now) place }
 {

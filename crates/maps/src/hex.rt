@@ -60,6 +60,15 @@ impl HexSheet {
         Ok(centre_at(row, column))
     }
 
+    // How many links the sheet has.
+    fn count_links(&self) -> u32
+        ensures { result ≡ length (hex_links self.now.width self.now.height) }
+    {
+        let w = self.width as u32;
+        let h = self.height as u32;
+        h * (w - 1) + (h - 1) * (2 * w - 1)
+    }
+
     // The link at a place among the neighbours in rows.
     fn pair_beside(&self, place: u32) -> (u16, u16)
         requires { place < self.now.height * (self.now.width - 1) }
@@ -91,16 +100,6 @@ impl HexSheet {
     }
 }
 
-// How many links a sheet has.
-fn count_links(width: u8, height: u8) -> u32
-    requires { Size width × Size height }
-    ensures { result ≡ length (hex_links width height) }
-{
-    let w = width as u32;
-    let h = height as u32;
-    h * (w - 1) + (h - 1) * (2 * w - 1)
-}
-
 impl Map for HexSheet {
     ghost meaning = { λ s. hex_meaning s.width s.height };
 
@@ -111,7 +110,7 @@ impl Map for HexSheet {
     }
 
     fn links(&self) -> u32 {
-        count_links(self.width, self.height)
+        self.count_links()
     }
 
     fn pair(&self, place: u32) -> Option<(u16, u16)> {

@@ -59,10 +59,10 @@ impl Marks<'_> {
     pub fn is_marked(&self, space: usize) -> bool
         ensures { result ≡ (nat_lt space self.now.n && marked self.now.bytes.now space) }
     {
-        space < self.n && space < self.bytes.len() && self.bytes[space] != 0
+        space < self.n && self.bytes.get(space).is_some_and(|byte| *byte != 0)
     }
 
-    // Writes the byte of a space, if it has one.
+    // Writes the byte of a space, if it has one. Tested by hand: what get_mut of a slice writes is not known afterwards.
     fn write(&mut self, space: usize, byte: u8)
         ensures bytes { self.new.bytes.now ≡ (if ltb space self.old.n then slice_set self.old.bytes.now space byte else self.old.bytes.now) }
         ensures same { SameMarks self.old self.new }

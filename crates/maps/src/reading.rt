@@ -20,7 +20,7 @@ fn row_of(table: &[u16], depth: u16, space: u16) -> &[u16]
     &table[start..end]
 }
 
-// Reads the row of `v` for `w`, then the row of `w` for `v`.
+// Reads the row of `v` for `w`, then the row of `w` for `v`. A labelled loop over two rows, broken with the reply: the form that was asked for.
 fn read_rows(table: &[u16], depth: u16, v: u16, w: u16) -> Reading
     ensures answer { (result.linked, result.cells) ≡ reading_rows depth table.now v w }
     ensures few { result.cells ≤ 2 * depth }

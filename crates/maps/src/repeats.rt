@@ -54,21 +54,22 @@ fn count_fresh(chained: &Chained<'_>, met: &mut Marks<'_>) -> usize
     fresh
 }
 
-// Chains the links of each space, and counts the links before the first that repeats an earlier one. All, where none does.
+// Chains the links of each space, and finds the place of the first that repeats an earlier one.
 pub(crate) fn chain_and_search(
     links: &[(u16, u16)],
     head: &mut [u16],
     next: &mut [(u16, u16)],
     met: &mut Marks<'_>,
-) -> usize
+) -> Option<usize>
     requires ends { EndsGood (length head.old) links.now }
     requires room { (length next.old ≡ length links.now) × (length head.old ≤ 4096) × (length links.now ≤ 32768) }
     requires marks { MarksOf (length head.old) met.old }
     requires none { NoneMet (length head.old) met.old.bytes.now }
-    ensures fresh { FirstRepeat links.now result }
+    ensures first { MatchOption result (FirstRepeat links.now (length links.now)) (λ p. (p < length links.now) × FirstRepeat links.now p) }
     ensures chains { Chains (length head.old) links.now head.new next.new 0 }
     ensures lent { StillLent met.old.n met.old met.new }
 {
     chain(links, head, next);
-    count_fresh(&Chained { links, head, next }, met)
+    let fresh = count_fresh(&Chained { links, head, next }, met);
+    (fresh < links.len()).then_some(fresh)
 }

@@ -48,7 +48,7 @@ impl LinkRows<'_> {
         self.memory.table[v as usize * self.memory.k + j] = c;
     }
 
-    // Takes `c` out of row `v` and closes the gap with the row's last filled cell. False, and nothing changed, if the row does not hold it.
+    // Takes `c` out of row `v` and closes the gap with the row's last filled cell. False, and nothing changed, if the row does not hold it: a bool, as `lift` answers.
     pub(crate) fn take_out(&mut self, v: u16, c: u16) -> bool
         requires inside { (v < self.old.memory.n) × (c < self.old.memory.n) }
         ensures answer { MatchBool result

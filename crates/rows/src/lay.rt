@@ -12,7 +12,7 @@ use crate::link_rows::LinkRows;
 use crate::link_rows::calls::Refusal;
 use maps::marks::Marks;
 
-// Writes the spaces that are marked, of the first `n`, as 1 and the others as 0.
+// Writes the spaces that are marked, of the first `n`, as 1 and the others as 0. The survey writes a set from degrees: one function over a test would need a clause on it longer than the loop.
 fn show(found: &Marks<'_>, n: usize, members: &mut [u8])
     requires { (found.now.n ≡ n) × (n ≤ length members.old) }
     ensures shown { (x : ℕ) → x < n →

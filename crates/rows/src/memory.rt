@@ -15,7 +15,7 @@ pub struct SpaceRecord {
     pub(crate) turn: u16,
 }
 
-// Space records and a table, of which `n` spaces and `k` cells to each are in use.
+// Space records and a table, of which `n` spaces and `k` cells to each are in use. They stay beside the slices: more may be lent.
 #[derive(Drop)]
 pub struct Memory<'a> {
     pub(crate) records: &'a mut [SpaceRecord],
@@ -74,7 +74,7 @@ impl Memory<'_> {
         self.k = k;
     }
 
-    // Moves what the cell at `last` holds to `gap`, and empties that cell.
+    // Moves what the cell at `last` holds to `gap`, and empties that cell. Here, since a slice behind a struct with ghost fields can't be lent on its own.
     pub(crate) fn close_gap(&mut self, gap: usize, last: usize)
         requires { (gap < length self.old.table.now) × (last < length self.old.table.now) }
         ensures table { self.new.table.now ≡

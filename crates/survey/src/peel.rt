@@ -28,9 +28,7 @@ fn lower_degree(degree: &mut [u16], w: u16) -> u16
     left
 }
 
-// `degree` and `order` stay apart from `chained`: the survey lends them on, as counts and as its reply.
-
-// Settles the space at `settled`: lowers the degree of each of its neighbours, and queues those that fall to `k` in front of `queued`. Where the queue then begins.
+// Settles the space at `settled`: lowers the degree of each of its neighbours, and queues those that fall to `k` in front of `queued`. Where the queue then begins. `degree` and `order` are no part of one struct: the survey lends them on, as counts and as its reply.
 fn lower(
     chained: &Chained<'_>,
     k: u16,

@@ -1,9 +1,9 @@
-ghost use Rattle.std.specs.Prelude.{◌≡◌, ◌*◌, ◌≤◌, length, nat_lt, slice_index};
+ghost use Rattle.std.specs.Prelude.{◌≡◌, ◌*◌, ◌≤◌, length, nat_lt, slice_index, ◌↔◌, IsTrue};
 ghost use Rattle.maps.specs.Checks.{Decides};
 ghost use Rattle.maps.specs.LinkChecks.{GoodLinks};
 ghost use Rattle.maps.specs.Marks.{Cleared};
 ghost use Rattle.maps.specs.Sets.{bytes};
-ghost use Rattle.survey.specs.Outcome.{ReadMap, Short, Surveyed, survey_row};
+ghost use Rattle.survey.specs.Outcome.{BadDepth, ReadMap, Short, Surveyed, survey_row};
 ghost use Rattle.survey.specs.Parts.{Parts};
 ghost use Rattle.survey.specs.Refusals.{survey_number, survey_place};
 ghost use Rattle.survey.specs.SurveyMemory.{SameMemory, contents};
@@ -18,7 +18,7 @@ use maps::memory::ListMemory;
 use maps::reading::EMPTY;
 use maps::source::Map;
 
-// The survey's own working memory, large enough for every map.
+// The survey's own working memory, large enough for every map: fixed arrays, since no call uses the heap.
 #[derive(Drop)]
 struct Work {
     links: [(u16, u16); 32768],
@@ -28,7 +28,7 @@ struct Work {
     places: [u16; 4096],
 }
 
-// Writes 1 for each space whose degree is above `k`, and 0 for each other.
+// Writes 1 for each space whose degree is above `k`, and 0 for each other. By place: after a zip with iter_mut nothing is known of what it wrote.
 fn write_set(k: u16, degree: &[u16], set: &mut [u8])
     requires room { length degree.now ≡ length set.old }
     ensures { set.new ≡ bytes (length set.old) (λ v. nat_lt k (slice_index degree.now v)) }
@@ -38,7 +38,7 @@ fn write_set(k: u16, degree: &[u16], set: &mut [u8])
     }
 }
 
-// Surveys faultless links that are chained, in memory of exactly the size it needs.
+// Surveys faultless links that are chained, in memory of exactly the size it needs. That they are faultless stays a clause: links are chained before that is known.
 fn survey_parts(
     chained: &Chained<'_>,
     k: u16,
@@ -63,6 +63,13 @@ fn survey_parts(
     Ok(())
 }
 
+// Whether a depth is not 1 to 8.
+pub(crate) fn is_bad_depth(depth: u16) -> bool
+    ensures { IsTrue result ↔ BadDepth depth }
+{
+    depth < 1 || depth > 8
+}
+
 // The checks before the list of links is read.
 fn check_call(
     spaces: u32,
@@ -72,7 +79,7 @@ fn check_call(
 ) -> Result<(), SurveyRefusal>
     ensures { Decides survey_number survey_place (survey_row spaces links depth (contents memory.now)) result }
 {
-    if depth < 1 || depth > 8 {
+    if is_bad_depth(depth) {
         return Err(SurveyRefusal::DepthOutOfRange);
     }
     if is_too_large(spaces, links) {
@@ -121,6 +128,7 @@ fn survey_list<M: Map>(
         head: &work.head[..n],
         next: &work.next[..m],
     };
+    // Slices first: a part of a field that is an array can't be lent on its own.
     let places = &mut work.places[..];
     let degree = &mut work.degree[..];
     survey_parts(

@@ -95,7 +95,7 @@ impl<const N: usize> Columns<N> {
         ))
     }
 
-    // The sum of the columns, of which there are at most four.
+    // The sum of the columns, of which there are at most four. Not by `sum`: its bound and its result stayed open.
     pub(crate) fn total(&self) -> i64
         requires { N ≤ 4 }
         ensures { result ≡ total self.now.numbers }

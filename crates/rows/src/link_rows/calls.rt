@@ -161,6 +161,7 @@ impl<'a> LinkRows<'a> {
     pub fn read(&self, a: u16, b: u16) -> Option<Reading>
         ensures { ReadAnswer self.now.memory a b result }
     {
+        // Read before the test is used, which any numbers allow: a closure for `then` would have to state these clauses again.
         self.has_both(a, b).then_some(self.read_rows(a, b))
     }
 }

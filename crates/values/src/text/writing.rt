@@ -9,7 +9,7 @@ use arrayvec::ArrayString;
 use itoa::{Buffer, Integer};
 use std::fmt;
 
-// The number in decimal.
+// The number in decimal. Both are a line over `number`, since each type states its own text.
 impl From<u32> for Text {
     ghost from_gives = { λ n text. shown text ≡ decimal n };
 

@@ -3,8 +3,8 @@ use Rattle.std.proofs.lemmas.List.{length-take, drop_all}
 use Rattle.maps.proofs.Listed.{sound_at, refuses_at, chains_at, part_length, copied_ends, repeated, bad_ends, all_good}
 use Rattle.maps.proofs.checks.check_parts.Goals as goal
 
-pub chain_and_search-fresh-requires : goal.chain_and_search-fresh-requires
-chain_and_search-fresh-requires g c =
+pub chain_and_search-requires : goal.chain_and_search-requires
+chain_and_search-requires g c =
     let long = c.copy_sound-sound.auto.links ∙ c.requires.size.1 in
     let s = c.copy_sound-sound.ensures in
     let part = part_length long s in
@@ -15,25 +15,21 @@ chain_and_search-fresh-requires g c =
       none = c.requires.none;
     }
 
-pub returns-then-fresh-sound : goal.returns-then-fresh-sound
-returns-then-fresh-sound g c =
-    record {
-      read = repeated (c.copy_sound-sound.auto.links ∙ c.requires.size.1) (sound_at c.spaces-n.ensures c.copy_sound-sound.ensures) c.chain_and_search-fresh.ensures.fresh c.if-fresh-sound.true;
-      lent = c.chain_and_search-fresh.ensures.lent;
-    }
-
-pub returns-then-sound-links : goal.returns-then-sound-links
-returns-then-sound-links g c =
+pub returns-in-Some-clause-read : goal.returns-in-Some-clause-read
+returns-in-Some-clause-read g c =
     let long = c.copy_sound-sound.auto.links ∙ c.requires.size.1 in
-    record {
-      read = bad_ends long (sound_at c.spaces-n.ensures c.copy_sound-sound.ensures) c.chain_and_search-fresh.ensures.fresh c.end_fault.result c.if-fresh-sound.false (omega (arith, long, c.if-sound-links.true)) (refuses_at _ _ c.end_fault.result c.spaces-n.ensures c.end_fault.ensures);
-      lent = c.chain_and_search-fresh.ensures.lent;
-    }
+    let s = sound_at c.spaces-n.ensures c.copy_sound-sound.ensures in
+    let first = c.in-Some.ensures.first in
+    repeated long s first.1 (omega (arith, part_length long s, first.0))
 
-pub returns : goal.returns
-returns g c =
+pub returns-then-sound-links-clause-read : goal.returns-then-sound-links-clause-read
+returns-then-sound-links-clause-read g c =
     let long = c.copy_sound-sound.auto.links ∙ c.requires.size.1 in
-    record {
-      read = all_good long (sound_at c.spaces-n.ensures c.copy_sound-sound.ensures) c.chain_and_search-fresh.ensures.fresh c.if-fresh-sound.false (omega (arith, long, c.if-sound-links.false)) (drop_all c.copy_sound-sound.result c.args.next.now (omega (arith, long, c.if-sound-links.false, c.requires.size.2, c.requires.size.1))) (chains_at c.requires.size.0 c.chain_and_search-fresh.ensures.chains);
-      lent = c.chain_and_search-fresh.ensures.lent;
-    }
+    let s = sound_at c.spaces-n.ensures c.copy_sound-sound.ensures in
+    bad_ends long s c.in_default.ensures.first c.end_fault.result (omega (arith, part_length long s)) (omega (arith, long, c.if-sound-links.true)) (refuses_at _ _ c.end_fault.result c.spaces-n.ensures c.end_fault.ensures)
+
+pub returns-clause-read : goal.returns-clause-read
+returns-clause-read g c =
+    let long = c.copy_sound-sound.auto.links ∙ c.requires.size.1 in
+    let s = sound_at c.spaces-n.ensures c.copy_sound-sound.ensures in
+    all_good long s c.in_default.ensures.first (omega (arith, part_length long s)) (omega (arith, long, c.if-sound-links.false)) (drop_all c.copy_sound-sound.result c.args.next.now (omega (arith, long, c.if-sound-links.false, c.requires.size.2, c.requires.size.1))) (chains_at c.requires.size.0 c.chain_and_search.ensures.chains)
