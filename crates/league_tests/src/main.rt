@@ -98,7 +98,7 @@ fn sheets_of_goods(rt: &HostRuntime) -> io::Result<()> {
 }
 
 // Prints that a step was refused, with how many bytes are as they were: the sheet that came back.
-fn refused<S>(
+fn refused<S: Drop>(
     rt: &HostRuntime,
     step: &str,
     all: &[u8; 600],

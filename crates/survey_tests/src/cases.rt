@@ -5,16 +5,16 @@ use maps::hex::HexSheet;
 use maps::source::Map;
 use survey::refusals::SurveyRefusal;
 
-// A small map and a depth.
+// A drawn map and a depth.
 #[derive(Clone, Copy)]
-struct Case {
-    name: &'static str,
+struct Case<'a> {
+    name: &'a str,
     spaces: u32,
     depth: u16,
-    ends: &'static [u16],
+    ends: &'a [u16],
 }
 
-static CASES: [Case; 14] = [
+static CASES: [Case<'static>; 14] = [
     Case {
         name: "triangle at 1",
         spaces: 3,
@@ -139,20 +139,15 @@ fn print_refusal(rt: &HostRuntime, refusal: SurveyRefusal, set: &[u8]) -> anyhow
 }
 
 // A drawn map, in enough memory.
-fn try_drawn(
-    rt: &HostRuntime,
-    name: &str,
-    spaces: u32,
-    ends: &[u16],
-    depth: u16,
-) -> anyhow::Result<()> {
-    try_map(rt, name, &DrawnMap::new(spaces, ends), depth, None)
+fn try_drawn(rt: &HostRuntime, case: &Case<'_>) -> anyhow::Result<()> {
+    let map = DrawnMap::new(case.spaces, case.ends);
+    try_map(rt, case.name, &map, case.depth, None)
 }
 
 // The maps of the table.
 pub(crate) fn run_cases(rt: &HostRuntime) -> anyhow::Result<()> {
     for case in &CASES {
-        try_drawn(rt, case.name, case.spaces, case.ends, case.depth)?;
+        try_drawn(rt, case)?;
     }
     Ok(())
 }
@@ -175,15 +170,62 @@ pub(crate) fn run_built(rt: &HostRuntime) -> anyhow::Result<()> {
     try_hex(rt)?;
     let heap = rt.alloc();
     let ends = path(heap, 4096)?;
-    try_drawn(rt, "path at 1", 4096, &ends, 1)?;
-    try_drawn(rt, "4,097 spaces", 4097, &ends, 1)?;
+    let case = Case {
+        name: "path at 1",
+        spaces: 4096,
+        depth: 1,
+        ends: &ends,
+    };
+    try_drawn(rt, &case)?;
+    try_drawn(
+        rt,
+        &Case {
+            name: "4,097 spaces",
+            spaces: 4097,
+            ..case
+        },
+    )?;
     let ends = steps(heap, 4096, 8)?;
-    try_drawn(rt, "eight steps back at 8", 4096, &ends, 8)?;
-    try_drawn(rt, "eight steps back at 7", 4096, &ends, 7)?;
+    let case = Case {
+        name: "eight steps back at 8",
+        spaces: 4096,
+        depth: 8,
+        ends: &ends,
+    };
+    try_drawn(rt, &case)?;
+    try_drawn(
+        rt,
+        &Case {
+            name: "eight steps back at 7",
+            depth: 7,
+            ..case
+        },
+    )?;
     let ends = hubs(heap)?;
-    try_drawn(rt, "eight hubs at 8", 4096, &ends, 8)?;
+    try_drawn(
+        rt,
+        &Case {
+            name: "eight hubs at 8",
+            ends: &ends,
+            ..case
+        },
+    )?;
     let mut ends = circle(heap)?;
-    try_drawn(rt, "32,768 links at 8", 4096, &ends, 8)?;
+    try_drawn(
+        rt,
+        &Case {
+            name: "32,768 links at 8",
+            ends: &ends,
+            ..case
+        },
+    )?;
     ends.extend_from_slice(&[0, 2048])?;
-    try_drawn(rt, "32,769 links", 4096, &ends, 8)
+    try_drawn(
+        rt,
+        &Case {
+            name: "32,769 links",
+            ends: &ends,
+            ..case
+        },
+    )
 }
