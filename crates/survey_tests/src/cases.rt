@@ -125,6 +125,7 @@ fn try_map<M: Map>(
 }
 
 // Prints the refusal, and of a dense map the first ten spaces of its set, and how many it has.
+// Twin of that of survey_map but for what follows a dense map: the two programs share no crate of their own.
 fn print_refusal(rt: &HostRuntime, refusal: SurveyRefusal, set: &[u8]) -> anyhow::Result<()> {
     print!(rt; "refused {refusal}")?;
     if refusal == SurveyRefusal::Dense {
@@ -165,11 +166,8 @@ fn try_hex(rt: &HostRuntime) -> anyhow::Result<()> {
     try_map(rt, "64 by 64 hexes at 3", &sheet, 3, None)
 }
 
-// Maps that are built: hex sheets, and the largest that are allowed.
-pub(crate) fn run_built(rt: &HostRuntime) -> anyhow::Result<()> {
-    try_hex(rt)?;
-    let heap = rt.alloc();
-    let ends = path(heap, 4096)?;
+fn try_path(rt: &HostRuntime) -> anyhow::Result<()> {
+    let ends = path(rt.alloc(), 4096)?;
     let case = Case {
         name: "path at 1",
         spaces: 4096,
@@ -177,15 +175,20 @@ pub(crate) fn run_built(rt: &HostRuntime) -> anyhow::Result<()> {
         ends: &ends,
     };
     try_drawn(rt, &case)?;
+    let name = "4,097 spaces";
+    let spaces = 4097;
     try_drawn(
         rt,
         &Case {
-            name: "4,097 spaces",
-            spaces: 4097,
+            name,
+            spaces,
             ..case
         },
-    )?;
-    let ends = steps(heap, 4096, 8)?;
+    )
+}
+
+fn try_steps(rt: &HostRuntime) -> anyhow::Result<()> {
+    let ends = steps(rt.alloc(), 4096, 8)?;
     let case = Case {
         name: "eight steps back at 8",
         spaces: 4096,
@@ -193,39 +196,53 @@ pub(crate) fn run_built(rt: &HostRuntime) -> anyhow::Result<()> {
         ends: &ends,
     };
     try_drawn(rt, &case)?;
+    let name = "eight steps back at 7";
+    let depth = 7;
     try_drawn(
         rt,
         &Case {
-            name: "eight steps back at 7",
-            depth: 7,
-            ..case
-        },
-    )?;
-    let ends = hubs(heap)?;
-    try_drawn(
-        rt,
-        &Case {
-            name: "eight hubs at 8",
-            ends: &ends,
-            ..case
-        },
-    )?;
-    let mut ends = circle(heap)?;
-    try_drawn(
-        rt,
-        &Case {
-            name: "32,768 links at 8",
-            ends: &ends,
-            ..case
-        },
-    )?;
-    ends.extend_from_slice(&[0, 2048])?;
-    try_drawn(
-        rt,
-        &Case {
-            name: "32,769 links",
-            ends: &ends,
+            name,
+            depth,
             ..case
         },
     )
+}
+
+fn try_hubs(rt: &HostRuntime) -> anyhow::Result<()> {
+    let ends = hubs(rt.alloc())?;
+    let case = Case {
+        name: "eight hubs at 8",
+        spaces: 4096,
+        depth: 8,
+        ends: &ends,
+    };
+    try_drawn(rt, &case)
+}
+
+fn try_circle(rt: &HostRuntime) -> anyhow::Result<()> {
+    let mut ends = circle(rt.alloc())?;
+    let case = Case {
+        name: "32,768 links at 8",
+        spaces: 4096,
+        depth: 8,
+        ends: &ends,
+    };
+    try_drawn(rt, &case)?;
+    ends.extend_from_slice(&[0, 2048])?;
+    let case = Case {
+        name: "32,769 links",
+        spaces: 4096,
+        depth: 8,
+        ends: &ends,
+    };
+    try_drawn(rt, &case)
+}
+
+// Maps that are built: hex sheets, and the largest that are allowed.
+pub(crate) fn run_built(rt: &HostRuntime) -> anyhow::Result<()> {
+    try_hex(rt)?;
+    try_path(rt)?;
+    try_steps(rt)?;
+    try_hubs(rt)?;
+    try_circle(rt)
 }
