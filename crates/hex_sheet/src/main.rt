@@ -10,6 +10,7 @@ use std::{env, io};
 
 // One line for each link, in the sheet's order.
 fn print_links(rt: &impl Print, sheet: &HexSheet) -> io::Result<()> {
+    // Zipped with the places: that a count of them fits is not known of Pairs.
     for (place, (a, b)) in (0..sheet.links()).zip(Pairs::of(sheet)) {
         println!(rt; "link {place}: {a} - {b}")?;
     }

@@ -2,6 +2,7 @@
 #![tactic(auto)]
 
 use league::owner::OwnerTotal;
+use league::refusal::SheetRefusal;
 use league::score::league_points;
 use league::sheet::steps::{begin, print_sheet};
 use league::sheet::{Begun, Footed, Headed, Listed};
@@ -96,6 +97,18 @@ fn sheets_of_goods(rt: &HostRuntime) -> io::Result<()> {
     show(rt, 512, 65535, &[poor; 7])
 }
 
+// Prints that a step was refused, with how many bytes are as they were: the sheet that came back.
+fn refused<S: Drop>(
+    rt: &HostRuntime,
+    step: &str,
+    all: &[u8; 600],
+    (sheet, refusal): (S, SheetRefusal),
+) -> io::Result<S> {
+    let number = refusal.number();
+    println!(rt; "{step} refused {number}, {} left", left(all))?;
+    Ok(sheet)
+}
+
 // Heads a sheet, after it was refused in other numbers of bytes.
 fn headed_at_last(
     rt: &HostRuntime,
@@ -106,14 +119,10 @@ fn headed_at_last(
         return Ok(None);
     };
     println!(rt; "head refused {}", refusal.number())?;
-    let Err((begun, refusal)) = begun.head::<Points>(&mut all[0..513], 4) else {
+    let Err(back) = begun.head::<Points>(&mut all[0..513], 4) else {
         return Ok(None);
     };
-    println!(rt;
-        "head refused {}, {} left",
-        refusal.number(),
-        left(&all[..])
-    )?;
+    let begun = refused(rt, "head", all, back)?;
     Ok(begun.head::<Points>(&mut all[0..512], 4).ok())
 }
 
@@ -124,14 +133,10 @@ fn listed_at_last(
     headed: Headed,
     owners: &[OwnerTotal<Points>; 7],
 ) -> io::Result<Option<Listed>> {
-    let Err((headed, refusal)) = headed.list(&mut all[0..600], owners) else {
+    let Err(back) = headed.list(&mut all[0..600], owners) else {
         return Ok(None);
     };
-    println!(rt;
-        "list refused {}, {} left",
-        refusal.number(),
-        left(&all[..])
-    )?;
+    let headed = refused(rt, "list", all, back)?;
     Ok(headed.list(&mut all[0..512], owners).ok())
 }
 
@@ -141,14 +146,10 @@ fn footed_at_last(
     all: &mut [u8; 600],
     listed: Listed,
 ) -> io::Result<Option<Footed>> {
-    let Err((listed, refusal)) = listed.foot(&mut all[0..100]) else {
+    let Err(back) = listed.foot(&mut all[0..100]) else {
         return Ok(None);
     };
-    println!(rt;
-        "foot refused {}, {} left",
-        refusal.number(),
-        left(&all[..])
-    )?;
+    let listed = refused(rt, "foot", all, back)?;
     Ok(listed.foot(&mut all[0..512]).ok())
 }
 
@@ -179,8 +180,6 @@ fn main(rt: HostRuntime) -> io::Result<()> {
     if let Err(refusal) = begin(&all[0..511]) {
         println!(rt; "begin refused {}", refusal.number())?;
     }
-    match begin(&all[0..512]) {
-        Ok(begun) => one_by_one(&rt, &mut all, begun),
-        Err(_) => Ok(()),
-    }
+    let begun = begin(&all[0..512]).unwrap();
+    one_by_one(&rt, &mut all, begun)
 }

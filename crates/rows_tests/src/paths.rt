@@ -2,6 +2,8 @@
 use rows::link_rows::LinkRows;
 use rows::memory::SpaceRecord;
 use std::fmt;
+use std::iter::Zip;
+use std::ops::Range;
 
 // What was counted.
 #[derive(Drop)]
@@ -36,6 +38,11 @@ impl fmt::Display for Counts {
     }
 }
 
+// The links of a path of `n` spaces.
+fn path(n: u16) -> Zip<Range<u16>, Range<u16>> {
+    (0..n).zip(1..n)
+}
+
 // Lays the links of a path of `n` spaces so that the space `free` is left with a free cell: how many.
 fn lay_path(
     rows: &mut LinkRows<'_>,
@@ -44,8 +51,7 @@ fn lay_path(
     members: &mut [u8],
     marks: &mut [u8],
 ) -> usize {
-    (0..n)
-        .zip(1..n)
+    path(n)
         .map(|(a, b)| if b <= free {
             rows.lay(a, b, members, marks)
         } else {
@@ -57,8 +63,7 @@ fn lay_path(
 
 // How many links of the path are read as kept, with the ends in either order.
 fn read_path(rows: &LinkRows<'_>, n: u16) -> usize {
-    (0..n)
-        .zip(1..n)
+    path(n)
         .filter_map(|(a, b)| rows.read(b, a))
         .filter(|reading| reading.linked)
         .count()
@@ -66,8 +71,7 @@ fn read_path(rows: &LinkRows<'_>, n: u16) -> usize {
 
 // Lifts each link of the path and lays it again: how many could be, and were not read in between.
 fn lay_again(rows: &mut LinkRows<'_>, n: u16, members: &mut [u8], marks: &mut [u8]) -> usize {
-    (0..n)
-        .zip(1..n)
+    path(n)
         .map(|(a, b)| {
             let lifted = rows.lift(b, a);
             let twice = rows.lift(a, b);

@@ -1,4 +1,4 @@
-// What is seen after a call on a triangle: the answer, and the first bytes of set and marks.
+// What is seen after calls on a triangle: the answer, and the first bytes of set and marks.
 use rows::link_rows::LinkRows;
 use rows::link_rows::calls::Refusal;
 use rows::memory::SpaceRecord;
@@ -50,29 +50,8 @@ impl fmt::Display for Seen {
     }
 }
 
-// Lays the sides of a triangle and, if wanted, a link too many: three spaces of four, one cell to each.
-pub(crate) fn triangle(one_more: bool) -> Seen {
-    let mut records = [SpaceRecord::default(); 4];
-    let mut table = [9u16; 6];
-    let mut members = [5u8; 5];
-    let mut marks = [3u8; 5];
-    let mut rows = LinkRows::new(&mut records, &mut table);
-    let _ = rows.clear(4, 1);
-    let _ = rows.lay(0, 1, &mut members, &mut marks);
-    let _ = rows.lay(1, 2, &mut members, &mut marks);
-    let mut answer = rows.lay(0, 2, &mut members, &mut marks);
-    if one_more {
-        answer = rows.lay(2, 1, &mut members, &mut marks);
-    }
-    Seen {
-        answer: Answer(answer),
-        members: Bytes(members),
-        marks: Bytes(marks),
-    }
-}
-
-// The refusals that come before crowding, with bytes that stay as they were.
-pub(crate) fn refused(a: u16, b: u16, bytes: usize) -> Seen {
+// Lays these links in turn, three spaces of four with one cell to each, lending so many bytes for the set: the answer to the last.
+pub(crate) fn lay_links(links: &[(u16, u16)], bytes: usize) -> Seen {
     let mut records = [SpaceRecord::default(); 4];
     let mut table = [9u16; 6];
     let mut members = [5u8; 5];
@@ -80,7 +59,10 @@ pub(crate) fn refused(a: u16, b: u16, bytes: usize) -> Seen {
     let mut rows = LinkRows::new(&mut records, &mut table);
     let _ = rows.clear(4, 1);
     let end = bytes.min(5);
-    let answer = rows.lay(a, b, &mut members[0..end], &mut marks);
+    let mut answer = Ok(());
+    for (a, b) in links {
+        answer = rows.lay(*a, *b, &mut members[0..end], &mut marks);
+    }
     Seen {
         answer: Answer(answer),
         members: Bytes(members),

@@ -130,6 +130,7 @@ fn print_colours<M: Map>(rt: &HostRuntime, map: &M, table: &Table<'_>) -> anyhow
 }
 
 // Prints the refusal, and the set of a dense map.
+// Twin of that of survey_tests but for what follows a dense map: the two programs share no crate of their own.
 fn print_refusal(rt: &HostRuntime, refusal: SurveyRefusal, set: &[u8]) -> anyhow::Result<()> {
     print!(rt; "refused {refusal}")?;
     if refusal == SurveyRefusal::Dense {

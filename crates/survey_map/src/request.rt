@@ -1,7 +1,9 @@
 use std::alloc::{AllocError, AllocFailed, Global};
 use std::fmt;
+use std::str::FromStr;
 
 // What a line of text lacks.
+// By hand: no further library for four texts.
 #[derive(Clone, Copy)]
 pub(crate) enum Fault {
     NoDepth,
@@ -69,13 +71,18 @@ fn two_numbers(text: &str) -> Option<(u16, u16)> {
 }
 
 // A size: a hex sheet's, or a number of spaces.
-fn ground_of(line: &str) -> Option<Ground> {
-    if let Some(size) = line.strip_prefix("hex ") {
-        let (width, height) = two_numbers(size)?;
-        return Some(Ground::Hex { width, height });
+impl FromStr for Ground {
+    type Err = Fault;
+
+    fn from_str(line: &str) -> Result<Ground, Fault> {
+        if let Some(size) = line.strip_prefix("hex ") {
+            let (width, height) = two_numbers(size).ok_or(Fault::NoGround)?;
+            return Ok(Ground::Hex { width, height });
+        }
+        let number = line.strip_prefix("spaces ").ok_or(Fault::NoGround)?;
+        let spaces = number.parse::<u32>().map_err(|_| Fault::NoGround)?;
+        Ok(Ground::Drawn { spaces })
     }
-    let spaces = line.strip_prefix("spaces ")?.parse::<u32>().ok()?;
-    Some(Ground::Drawn { spaces })
 }
 
 impl Request {
@@ -111,7 +118,7 @@ impl Stage {
                 Ok(Stage::Depth(depth))
             }
             Stage::Depth(depth) => {
-                let ground = ground_of(line).ok_or(Fault::NoGround)?;
+                let ground = line.parse::<Ground>()?;
                 Ok(Stage::Pairs(Request::new(heap, depth, ground)))
             }
             Stage::Pairs(mut request) => {

@@ -5,16 +5,16 @@ use maps::hex::HexSheet;
 use maps::source::Map;
 use survey::refusals::SurveyRefusal;
 
-// A small map and a depth.
+// A drawn map and a depth.
 #[derive(Clone, Copy)]
-struct Case {
-    name: &'static str,
+struct Case<'a> {
+    name: &'a str,
     spaces: u32,
     depth: u16,
-    ends: &'static [u16],
+    ends: &'a [u16],
 }
 
-static CASES: [Case; 14] = [
+static CASES: [Case<'static>; 14] = [
     Case {
         name: "triangle at 1",
         spaces: 3,
@@ -125,6 +125,7 @@ fn try_map<M: Map>(
 }
 
 // Prints the refusal, and of a dense map the first ten spaces of its set, and how many it has.
+// Twin of that of survey_map but for what follows a dense map: the two programs share no crate of their own.
 fn print_refusal(rt: &HostRuntime, refusal: SurveyRefusal, set: &[u8]) -> anyhow::Result<()> {
     print!(rt; "refused {refusal}")?;
     if refusal == SurveyRefusal::Dense {
@@ -139,20 +140,15 @@ fn print_refusal(rt: &HostRuntime, refusal: SurveyRefusal, set: &[u8]) -> anyhow
 }
 
 // A drawn map, in enough memory.
-fn try_drawn(
-    rt: &HostRuntime,
-    name: &str,
-    spaces: u32,
-    ends: &[u16],
-    depth: u16,
-) -> anyhow::Result<()> {
-    try_map(rt, name, &DrawnMap::new(spaces, ends), depth, None)
+fn try_drawn(rt: &HostRuntime, case: &Case<'_>) -> anyhow::Result<()> {
+    let map = DrawnMap::new(case.spaces, case.ends);
+    try_map(rt, case.name, &map, case.depth, None)
 }
 
 // The maps of the table.
 pub(crate) fn run_cases(rt: &HostRuntime) -> anyhow::Result<()> {
     for case in &CASES {
-        try_drawn(rt, case.name, case.spaces, case.ends, case.depth)?;
+        try_drawn(rt, case)?;
     }
     Ok(())
 }
@@ -170,20 +166,83 @@ fn try_hex(rt: &HostRuntime) -> anyhow::Result<()> {
     try_map(rt, "64 by 64 hexes at 3", &sheet, 3, None)
 }
 
+fn try_path(rt: &HostRuntime) -> anyhow::Result<()> {
+    let ends = path(rt.alloc(), 4096)?;
+    let case = Case {
+        name: "path at 1",
+        spaces: 4096,
+        depth: 1,
+        ends: &ends,
+    };
+    try_drawn(rt, &case)?;
+    let name = "4,097 spaces";
+    let spaces = 4097;
+    try_drawn(
+        rt,
+        &Case {
+            name,
+            spaces,
+            ..case
+        },
+    )
+}
+
+fn try_steps(rt: &HostRuntime) -> anyhow::Result<()> {
+    let ends = steps(rt.alloc(), 4096, 8)?;
+    let case = Case {
+        name: "eight steps back at 8",
+        spaces: 4096,
+        depth: 8,
+        ends: &ends,
+    };
+    try_drawn(rt, &case)?;
+    let name = "eight steps back at 7";
+    let depth = 7;
+    try_drawn(
+        rt,
+        &Case {
+            name,
+            depth,
+            ..case
+        },
+    )
+}
+
+fn try_hubs(rt: &HostRuntime) -> anyhow::Result<()> {
+    let ends = hubs(rt.alloc())?;
+    let case = Case {
+        name: "eight hubs at 8",
+        spaces: 4096,
+        depth: 8,
+        ends: &ends,
+    };
+    try_drawn(rt, &case)
+}
+
+fn try_circle(rt: &HostRuntime) -> anyhow::Result<()> {
+    let mut ends = circle(rt.alloc())?;
+    let case = Case {
+        name: "32,768 links at 8",
+        spaces: 4096,
+        depth: 8,
+        ends: &ends,
+    };
+    try_drawn(rt, &case)?;
+    ends.extend_from_slice(&[0, 2048])?;
+    let case = Case {
+        name: "32,769 links",
+        spaces: 4096,
+        depth: 8,
+        ends: &ends,
+    };
+    try_drawn(rt, &case)
+}
+
 // Maps that are built: hex sheets, and the largest that are allowed.
 pub(crate) fn run_built(rt: &HostRuntime) -> anyhow::Result<()> {
     try_hex(rt)?;
-    let heap = rt.alloc();
-    let ends = path(heap, 4096)?;
-    try_drawn(rt, "path at 1", 4096, &ends, 1)?;
-    try_drawn(rt, "4,097 spaces", 4097, &ends, 1)?;
-    let ends = steps(heap, 4096, 8)?;
-    try_drawn(rt, "eight steps back at 8", 4096, &ends, 8)?;
-    try_drawn(rt, "eight steps back at 7", 4096, &ends, 7)?;
-    let ends = hubs(heap)?;
-    try_drawn(rt, "eight hubs at 8", 4096, &ends, 8)?;
-    let mut ends = circle(heap)?;
-    try_drawn(rt, "32,768 links at 8", 4096, &ends, 8)?;
-    ends.extend_from_slice(&[0, 2048])?;
-    try_drawn(rt, "32,769 links", 4096, &ends, 8)
+    try_path(rt)?;
+    try_steps(rt)?;
+    try_hubs(rt)?;
+    try_circle(rt)
 }

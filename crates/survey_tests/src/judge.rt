@@ -74,8 +74,8 @@ impl Memory {
 }
 
 // The place of each space in the order, where it has one.
-fn places(heap: Global, order: &[u16], n: usize) -> Result<Vec<Option<usize>>, AllocError> {
-    let mut places = vec![in heap; None; n]?;
+fn places(heap: Global, order: &[u16]) -> Result<Vec<Option<usize>>, AllocError> {
+    let mut places = vec![in heap; None; order.len()]?;
     for (i, space) in order.iter().enumerate() {
         if let Some(place) = places.get_mut(*space as usize) {
             *place = Some(i);
@@ -84,16 +84,10 @@ fn places(heap: Global, order: &[u16], n: usize) -> Result<Vec<Option<usize>>, A
     Ok(places)
 }
 
-// Every space has a place, and no more than `k` links lead to spaces before it.
-fn is_ordered<M: Map>(
-    heap: Global,
-    map: &M,
-    order: &[u16],
-    n: usize,
-    k: u16,
-) -> Result<bool, AllocError> {
-    let places = places(heap, order, n)?;
-    let mut before = vec![in heap; 0u32; n]?;
+// The order is as long as the map, every space has a place, and no more than `k` links lead to spaces before it.
+fn is_ordered<M: Map>(heap: Global, map: &M, order: &[u16], k: u16) -> Result<bool, AllocError> {
+    let places = places(heap, order)?;
+    let mut before = vec![in heap; 0u32; order.len()]?;
     for (a, b) in Pairs::of(map) {
         let in_order = places.get(a as usize) < places.get(b as usize);
         let later = if in_order { b } else { a };
@@ -101,7 +95,11 @@ fn is_ordered<M: Map>(
             *count = count.saturating_add(1);
         }
     }
-    Ok(places.iter().all(|place| place.is_some()) && before.iter().all(|count| *count <= k as u32))
+    Ok(
+        order.len() == map.spaces() as usize
+            && places.iter().all(|place| place.is_some())
+            && before.iter().all(|count| *count <= k as u32),
+    )
 }
 
 // The table says yes for each link, and has one filled cell for each.
@@ -152,7 +150,7 @@ pub(crate) fn is_right<M: Map>(
     Ok(
         past && match reply {
             Ok(()) => {
-                cleared && unset && is_ordered(heap, map, order, n, k)? && is_tabled(map, table, k)
+                cleared && unset && is_ordered(heap, map, order, k)? && is_tabled(map, table, k)
             }
             Err(SurveyRefusal::Dense) => {
                 cleared
