@@ -1,3 +1,5 @@
+ghost use Rattle.std.specs.Prelude.{◌≤◌, length};
+
 use arrayvec::ArrayString;
 
 pub mod writing;
@@ -6,4 +8,5 @@ pub mod writing;
 #[derive(Clone, Copy, Debug, PartialEq, Eq)]
 pub struct Text {
     text: ArrayString<47>,
+    ghost short: { length text.bytes ≤ 47 },
 }

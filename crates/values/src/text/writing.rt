@@ -1,4 +1,4 @@
-ghost use Rattle.std.specs.Prelude.{◌≡◌, ◌+◌, ◌≤◌, [], ◌++◌, length, decimal, Some};
+ghost use Rattle.std.specs.Prelude.{◌≡◌, ◌+◌, ◌≤◌, [], ◌∷◌, ◌++◌, length, decimal, Some};
 ghost use Rattle.std.specs.Fmt.{signed_decimal};
 ghost use Rattle.values.specs.Columns.{Held};
 ghost use Rattle.values.specs.Shown.{shown};
@@ -44,7 +44,7 @@ impl Text {
         let mut text = Text::empty();
         for (i, z) in columns.iter().enumerate() {
             if i > 0 {
-                text.text.push(',');
+                text.push_comma();
             }
             text.push_number(*z);
         }
@@ -84,6 +84,14 @@ impl Text {
         ensures room { length (shown self.new) ≤ length (shown self.old) + I.MAX_STR_LEN }
     {
         self.text.push_str(Buffer::new().format(n));
+    }
+
+    // A comma.
+    fn push_comma(&mut self)
+        requires { length (shown self.old) + 1 ≤ 47 }
+        ensures { shown self.new ≡ shown self.old ++ (44 ∷ []) }
+    {
+        self.text.push(',');
     }
 
     // A minus sign if the number is below 0.

@@ -11,7 +11,7 @@ use Rattle.values.proofs.text.Text.parted.Goals.{then-i-gt0, else-i-gt0}
 pub push_number-requires : goal.push_number-requires
 push_number-requires c =
     elim c.if-i-gt0.branch [
-      | then-i-gt0 w ↦ omega (arith, grown (shown c.if-i-gt0.text) (shown c.loop-i.text) (44 ∷ []) (ap shown w.text-is ∙ w.push.ensures.ascii (omega arith)), c.loop-i.invariant.1)
+      | then-i-gt0 w ↦ omega (arith, grown (shown c.if-i-gt0.text) (shown c.loop-i.text) (44 ∷ []) (ap shown w.text-is ∙ w.push_comma.ensures), c.loop-i.invariant.1)
       | else-i-gt0 w ↦ omega (arith, ap (λ t. length (shown t)) w.text-is, c.loop-i.invariant.1)
     ]
 
@@ -21,7 +21,7 @@ loop-i-preserved c =
     let k = kept_is (column c.args.columns.now c.loop-i.i) (held_at c.args.columns.now c.requires c.loop-i.i l) in
     elim c.if-i-gt0.branch [
       | then-i-gt0 w ↦
-          let t : shown c.if-i-gt0.text ≡ shown c.loop-i.text ++ (44 ∷ []) = ap shown w.text-is ∙ w.push.ensures.ascii (omega arith) in
+          let t : shown c.if-i-gt0.text ≡ shown c.loop-i.text ++ (44 ∷ []) = ap shown w.text-is ∙ w.push_comma.ensures in
           (pushed_more signed_decimal _ _ _ _ _ _ l w.if-i-gt0.true k c.loop-i.invariant.0 t c.push_number.ensures.after, omega (arith, grown (shown c.if-i-gt0.text) (shown c.loop-i.text) (44 ∷ []) t, c.push_number.ensures.room, c.loop-i.invariant.1))
       | else-i-gt0 w ↦
           let t : shown c.if-i-gt0.text ≡ shown c.loop-i.text = ap shown w.text-is in
