@@ -38,7 +38,7 @@ fn write_set(k: u16, degree: &[u16], set: &mut [u8])
     }
 }
 
-// Surveys faultless links that are chained, in memory of exactly the size it needs. That they are faultless stays a clause: links are chained before that is known.
+// Surveys faultless links that are chained, in memory of exactly the size it needs: slices cut from the two records, so they come one by one. That they are faultless stays a clause: links are chained before that is known.
 fn survey_parts(
     chained: &Chained<'_>,
     k: u16,
