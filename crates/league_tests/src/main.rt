@@ -109,7 +109,7 @@ fn refused<S: Drop>(
     Ok(sheet)
 }
 
-// Heads a sheet, after it was refused in other numbers of bytes.
+// Heads a sheet, after it was refused in other numbers of bytes. A step that goes otherwise ends the test, here and below: then lines of the stored output are missing.
 fn headed_at_last(
     rt: &HostRuntime,
     all: &mut [u8; 600],
