@@ -1,7 +1,7 @@
 -- One text written after another. Assumes nothing.
 use Rattle.std.proofs.Common.{◌≡◌, ℕ, ◌+◌, ◌-◌, ◌<◌, ◌≤◌, List, [], ◌∷◌, ◌++◌, length, take, drop, sym, refl, ap, ◌∙◌, append_assoc, arith, length-append, length-drop, length-take}
 use borrow.Rule.Slice.PartMut.{put_mid}
-use Rattle.std.proofs.lemmas.List.{take_at, drop_at, drop-drop}
+use Rattle.std.proofs.lemmas.List.{take_at, drop_at, drop-drop, take-append-drop}
 use Rattle.league.specs.Writing.{Wrote, Puts}
 
 pub same_length : (s t a : List ℕ) (i j : ℕ) → Wrote s i a j t → length t ≡ length s
@@ -60,6 +60,9 @@ put_two s t u a b i j k h p q =
 -- a text after what is written, where there is room
 pub wrote_more : (s t u a b : List ℕ) (i j k : ℕ) → Wrote s i a j t → j + length b ≤ length s → Puts t j b k u → Wrote s i (a ++ b) k u
 wrote_more s t u a b i j k v h p = wrote_then s t u a b i j k v (p.wrote (omega (arith, same_length s t a i j v)))
+
+pub wrote_nothing : (s : List ℕ) (i : ℕ) → i ≤ length s → Wrote s i [] i s
+wrote_nothing s i h = record { ends = omega arith; room = h; reads = sym (take-append-drop i s) }
 
 pub wrote_as : (s t a b : List ℕ) (i j : ℕ) → a ≡ b → Wrote s i a j t → Wrote s i b j t
 wrote_as s t a b i j e w = rw (← e) w

@@ -26,6 +26,6 @@ pub fn place_among<K: Kind>(owners: &[OwnerTotal<K>; 7], weight: i64) -> u32
 {
     1 + owners
         .iter()
-        .filter(|other| outweighs(other, weight))
-        .count() as u32
+        .map(|other| u32::from(outweighs(other, weight)))
+        .sum::<u32>()
 }

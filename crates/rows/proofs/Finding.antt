@@ -61,6 +61,9 @@ module _
   not_c : (x : ℕ) → S x ≡ true → x ≡ c → ⊥
   not_c x e q = both_ways (S c) fresh (rw q at e)
 
+  pub room_left : tail < n
+  room_left = omega (arith, size_more n S S' c c_in fresh now_c else_S, size_le n S', s.count)
+
   kept : (x : ℕ) → S x ≡ true → S' x ≡ true
   kept x e = else_S x (not_c x e) ∙ e
 
@@ -102,6 +105,9 @@ module _
       }
 
 -- what stays when more is found
+pub grown_same : (S : Spaces) (queue : ℕ → ℕ) (tail : ℕ) → Grown S S queue queue tail tail
+grown_same S queue tail = record { more = omega arith; kept = λ x e. e; order = λ i l. refl }
+
 pub grown_trans : (S S' S'' : Spaces) (queue queue' queue'' : ℕ → ℕ) (tail tail' tail'' : ℕ) → Grown S S' queue queue' tail tail' → Grown S' S'' queue' queue'' tail' tail'' → Grown S S'' queue queue'' tail tail''
 grown_trans S S' S'' queue queue' queue'' tail tail' tail'' g h =
     record {

@@ -1,5 +1,5 @@
 -- Memory that is in order, by the parts that a ghost field states.
-use Rattle.std.proofs.Common.{◌≡◌, ◌≢◌, ℕ, ◌*◌, ◌<◌, ◌≤◌, List, length, sym, ap, ◌∙◌, subst, arith}
+use Rattle.std.proofs.Common.{◌≡◌, ◌≢◌, ℕ, ◌*◌, ◌<◌, ◌≤◌, List, length, sym, refl, ap, ◌∙◌, subst, arith}
 use Rattle.maps.specs.Links.{Link}
 use Rattle.crowding.specs.Orientation.{Oriented}
 use Rattle.crowding.specs.Table.{table_rows}
@@ -45,6 +45,12 @@ module _ (n k : ℕ) (t : List ℕ) (s : Sound n k t) where
 
   pub front_in : (p : ℕ × ℕ × ℕ) → ((p.0 < n) × (p.1 ≤ p.2) × (p.2 < k) × (cell k t p.0 p.1 ≡ 65535)) → cell k t p.0 p.2 ≡ 65535
   front_in p h = s.first p.0 h.0 p.1 p.2 h.1 h.2 h.3
+
+pub ready_after : (m m' : Memory) → Ready m → SameShape m m' → Ready m'
+ready_after m m' r s = record { sound = s.sound; room = omega (arith, s.records.len, s.n, r.room) }
+
+pub shape_same : (m : Memory) → Ready m → SameShape m m
+shape_same m r = record { n = refl; k = refl; records = past_same m.n m.records.now; sound = r.sound; past = past_same (m.n * m.k) m.table.now }
 
 -- another table of the same rows
 pub ready_written

@@ -1,5 +1,5 @@
 -- What a search keeps from step to step, and one cell of a row.
-use Rattle.std.proofs.Common.{◌≡◌, ℕ, ◌+◌, ◌*◌, ◌<◌, ◌≤◌, Bool, true, ◌&&◌, ltb, List, length, get_or, Decides, sym, ap, ◌∙◌, subst, inl, inr, arith}
+use Rattle.std.proofs.Common.{◌≡◌, ℕ, ◌+◌, ◌*◌, ◌<◌, ◌≤◌, Bool, true, ◌&&◌, ltb, List, length, get_or, Decides, sym, refl, ap, ◌∙◌, subst, inl, inr, arith}
 use Rattle.std.specs.List.{ContainsAt}
 use Rattle.std.proofs.lemmas.List.{get_or-map}
 use Rattle.std.proofs.lemmas.Bool.{cases_eq}
@@ -23,6 +23,16 @@ use Rattle.maps.proofs.Past.{past_same, past_trans, past_at}
 use Rattle.rows.proofs.Finding.{grown_trans, among_in, spread_grown, tail_le}
 use Rattle.rows.proofs.Ghosts.{keeps_at, rows_same}
 use Rattle.rows.proofs.Table.{row_in, row_cell}
+
+pub kept_same : (m : Memory) (marks : Marks) → Kept m m marks marks
+kept_same m marks =
+    record {
+      n = refl;
+      k = refl;
+      table = refl;
+      records = past_same m.n m.records.now;
+      lent = record { same = record { n = refl; same = refl }; bytes = past_same m.n marks.bytes.now };
+    }
 
 pub kept_trans : {m m' m'' : Memory} {a b c : Marks} → Kept m m' a b → Kept m' m'' b c → Kept m m'' a c
 kept_trans {m} {m'} {m''} {a} {b} {c} p q =

@@ -25,6 +25,12 @@ none_some o x p q = let z : ◌≡◌ {A = ℕ} 0 1 = cc in omega arith
 pub same_some : {X : Type 0} (o : Option X) (x y : X) → o ≡ Some x → o ≡ Some y → x ≡ y
 same_some o x y p q = cc
 
+pub err_ok : {X E : Type 0} (o : Result X E) (x : X) (e : E) → o ≡ Err e → o ≢ Ok x
+err_ok o x e p q = let z : ◌≡◌ {A = ℕ} 0 1 = cc in omega arith
+
+pub same_ok : {X E : Type 0} (r : Result X E) (x y : X) → r ≡ Ok x → r ≡ Ok y → x ≡ y
+same_ok r x y p q = cc
+
 -- a decimal holds digits only
 pub own : IsNumeralModel (AllDigits 10) (digits_value 10)
 own = numerals_by_value (AllDigits 10) tells_digits
@@ -94,6 +100,14 @@ minus_guess bs f w o s h k r = record { found = found; ranged = r }
     found : (z : ℤ) → Within 1000000 z → bs ≡ signed_halves_text z → o ≡ Some z
     found (pos n) l e = absurd (digit_first n (omega arith) (ap (λ v. slice_index v 0) (sym e ∙ s)))
     found (negsuc n) l e = let t : f ≡ halves_text (suc n) = cc in k (suc n) (h.found (suc n) l t)
+
+pub plain_guess : (bs : List ℕ) (w : Option ℕ) (o : Option ℤ) → ((rest : List ℕ) → bs ≢ 45 ∷ rest) → Guess halves_text (λ n. n ≤ 1000000) bs w
+    → ((m : ℕ) → w ≡ Some m → o ≡ Some (pos m)) → IfSome o (Within 1000000) → Guess signed_halves_text (Within 1000000) bs o
+plain_guess bs w o s h k r = record { found = found; ranged = r }
+  where
+    found : (z : ℤ) → Within 1000000 z → bs ≡ signed_halves_text z → o ≡ Some z
+    found (pos n) l e = k n (h.found n l e)
+    found (negsuc n) l e = absurd (s (halves_text (suc n)) e)
 
 -- a column, by what `parse` read
 pub column_guess : {E : Type 0} (bs : List ℕ) (r : Result ℤ E) (o : Option ℤ) → ParsesSigned w32 10 bs r

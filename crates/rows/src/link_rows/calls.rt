@@ -161,7 +161,10 @@ impl<'a> LinkRows<'a> {
     pub fn read(&self, a: u16, b: u16) -> Option<Reading>
         ensures { ReadAnswer self.now.memory a b result }
     {
-        // Read before the test is used, which any numbers allow: a closure for `then` would have to state these clauses again.
-        self.has_both(a, b).then_some(self.read_rows(a, b))
+        // Not `then_some`, which reads before the test; a closure for `then` would have to state these clauses again.
+        if !self.has_both(a, b) {
+            return None;
+        }
+        Some(self.read_rows(a, b))
     }
 }
