@@ -142,8 +142,7 @@ fn survey_list<M: Map>(
     )
 }
 
-// Surveys a map: the order, the table and with it the colours of its links; or, where the map is dense, its largest thick set. Never inlined: its working memory would stay in a caller's frame while that calls another survey.
-#[inline(never)]
+// Surveys a map: the order, the table and with it the colours of its links; or, where the map is dense, its largest thick set.
 pub fn survey<M: Map>(
     map: &M,
     depth: u16,

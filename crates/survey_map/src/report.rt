@@ -54,7 +54,8 @@ pub(crate) fn report(rt: &HostRuntime, request: &Request) -> anyhow::Result<()> 
     Ok(())
 }
 
-// Surveys a map in memory of its own.
+// Surveys a map in memory of its own. Never inlined: the survey's working memory would stay on the stack while a map of another source is surveyed.
+#[inline(never)]
 fn report_map<M: Map>(rt: &HostRuntime, map: &M, request: &Request) -> anyhow::Result<()> {
     let heap = rt.alloc();
     let spaces = map.spaces();
