@@ -1,13 +1,11 @@
 -- The answers of lifting and reading a link.
-use Rattle.std.proofs.Common.{◌≡◌, ℕ, ◌<◌, ◌≤◌, Bool, true, false, MatchBool, ◌⊎◌, ◌∷◌, ◌*◌, sym, ap, ◌∙◌, subst}
+use Rattle.std.proofs.Common.{◌≡◌, ℕ, ◌<◌, ◌≤◌, Bool, true, false, MatchBool, ◌⊎◌, ◌∷◌, sym, ap, ◌∙◌, subst}
 use Rattle.std.specs.List.{ContainsAt}
 use Rattle.crowding.specs.Orientation.{Rows}
 use Rattle.crowding.specs.Putting.{Put}
 use Rattle.crowding.proofs.Moves.{lifted, relinked}
-use Rattle.std.specs.Bool.{then_some}
 use Rattle.maps.specs.Reading.{reading}
-use Rattle.maps.specs.declared.reading.Reading.{Reading}
-use Rattle.rows.specs.Calls.{InsideEnds, OutsideEnd, LiftAnswer, ReadAnswer}
+use Rattle.rows.specs.Calls.{InsideEnds, LiftAnswer}
 use Rattle.rows.specs.Keeping.{Tells}
 use Rattle.rows.specs.Steps.{SameBesideCells}
 use Rattle.rows.specs.View.{Ready, rows_of}
@@ -64,9 +62,3 @@ outside_tells m a b out = record { kept = λ links o. sym (outside_not_kept (λ 
 pub read_tells : (m : Memory) (a b : ℕ) (linked : Bool) (cells : ℕ) → Ready m → a < m.n → b < m.n → (linked, cells) ≡ reading m.k m.table.now a b → Tells m a b linked
 read_tells m a b linked cells r la lb e =
     record { kept = λ links o. ap (λ (p : Bool × ℕ). p.0) e ∙ reading_tells m.n m.k m.table.now r.sound links o a b la lb }
-
-pub read_by
-    : (m : Memory) → Ready m → (a b : ℕ) (t : Bool) → MatchBool t (InsideEnds m a b) (OutsideEnd m a b) → (x : Reading)
-    → (x.linked, x.cells) ≡ reading m.k m.table.now a b → x.cells ≤ 2 * m.k → ReadAnswer m a b (then_some t x)
-read_by m r a b true inside x rule few = (inside, rule, read_tells m a b x.linked x.cells r inside.0 inside.1 rule, few)
-read_by m r a b false out x rule few = out

@@ -1,14 +1,9 @@
-use Rattle.std.proofs.Common.{Bool, subst}
-use Rattle.std.specs.Bool.{then_some}
-use Rattle.rows.specs.Calls.{ReadAnswer}
 use Rattle.rows.proofs.Ghosts.{ready_of}
-use Rattle.rows.proofs.Lifts.{read_by}
+use Rattle.rows.proofs.Lifts.{read_tells}
 use Rattle.rows.proofs.link_rows.LinkRows.read.Goals as goal
 
 pub returns : goal.returns
 returns c =
-    let m = c.args.self.now.memory in
-    let x = c.read_rows.result in
+    let inside = c.if-not-has_both.ensures in
     let e = c.read_rows.ensures in
-    subst (λ (t : Bool). ReadAnswer m c.args.a c.args.b (then_some t x)) c.if-not-has_both.false
-    (read_by m (ready_of c.args.self.now) c.args.a c.args.b c.has_both.result c.has_both.ensures x e.rule e.few)
+    (inside, e.rule, read_tells c.args.self.now.memory c.args.a c.args.b c.read_rows.result.linked c.read_rows.result.cells (ready_of c.args.self.now) inside.0 inside.1 e.rule, e.few)
